@@ -1,8 +1,8 @@
 -- What an application is asked to do, by its name and its argument.
-use Rattle.std.specs.Prelude.{ℕ, nat_le, ◌||◌, if◌then◌else◌, Option, None, Some, codes}
+use Rattle.std.specs.Prelude.{ℕ, ◌==◌, nat_le, Bool, not, ◌||◌, if◌then◌else◌, List, [], ◌∷◌, length, Option, None, Some, unwrap_or, codes}
 use Rattle.std.specs.Str.{bytes_eq}
 use Rattle.fs_text.specs.Number.{read_u64}
-use Rattle.fs_text.specs.Words.{without_spaces, word_of}
+use Rattle.fs_text.specs.Words.{without_spaces, word_of, behind_word}
 use Rattle.fs_text.specs.Cause.{cause_or_clearing}
 use Rattle.fs_text.specs.Texts.{Text}
 use Rattle.fs_chan.specs.declared.assignment.Assignment.{Assignment}
@@ -34,6 +34,40 @@ abbrev pub transfer_to : Option Target3 → Application
 transfer_to None = app.Unknown
 transfer_to (Some to) = app.Transfer to
 
+-- ---- queues
+
+-- a byte in front of what stands before the last such byte behind it; where there is none, nothing before the byte if it is one itself
+abbrev pub with_byte : ℕ → Bool → Option (List ℕ) → Option (List ℕ)
+with_byte b is (Some more) = Some (b ∷ more)
+with_byte b is None = if is then Some [] else None
+
+-- what stands before the last such byte, if there is one
+abbrev pub before_last : ℕ → List ℕ → Option (List ℕ)
+before_last byte [] = None
+before_last byte (b ∷ bytes) = with_byte b (b == byte) (before_last byte bytes)
+
+-- the name of a queue, which a word gives with its importance behind a `!`
+abbrev pub queue_name : Text → Text
+queue_name word = unwrap_or (before_last 33 word) word
+
+-- a taker waits where it does not say that it will not
+abbrev pub waits_by : Text → Bool
+waits_by word = not (bytes_eq word (codes "nowait"))
+
+-- what is done in a queue by its name, and by the words behind it: the second says what, the third whether a taker waits
+abbrev pub queued_by : Text → Text → Text → Application
+queued_by name what third =
+    if length name == 0 then app.Unknown
+    else (if bytes_eq what (codes "in") then app.FifoIn name
+    else (if bytes_eq what (codes "out") then app.FifoOut name (waits_by third)
+    else app.Unknown))
+
+abbrev pub fifo_in : Text → Application
+fifo_in words = queued_by (queue_name (word_of words)) (word_of (behind_word words)) (word_of (behind_word (behind_word words)))
+
+abbrev pub fifo_application : Text → Application
+fifo_application argument = fifo_in (without_spaces argument)
+
 -- ---- all of them
 
 -- what an assignment is asked by its argument, or else another application
@@ -51,7 +85,8 @@ application_of name argument =
     else (if bytes_eq name (codes "bridge") then app.Bridge argument
     else (if bytes_eq name (codes "park") then app.Park
     else (if bytes_eq name (codes "transfer") then transfer_to (target_in (without_spaces argument))
-    else app.Unknown)))))))
+    else (if bytes_eq name (codes "fifo") then fifo_application argument
+    else app.Unknown))))))))
 
 -- the texts of a transfer can stand in a profile
 abbrev pub IsShortApplication : Application → Type 0

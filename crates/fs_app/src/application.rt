@@ -21,6 +21,11 @@ pub enum Application {
     Park,
     /// The channel is routed anew; each text has at most 256 bytes.
     Transfer { to: Target3 },
+    /// The channel waits in the queue of a name, which is not empty.
+    FifoIn { name: Txt },
+    /// The channel takes the first caller of the queue of a name, which is not empty; where there is none it goes on,
+    /// unless it waits for one.
+    FifoOut { name: Txt, waits: bool },
     /// There is no such application, or its words are out of their form.
     Unknown,
 }
@@ -39,6 +44,11 @@ impl Drop for Application {
             Application::Bridge { dial: _dial } => {}
             Application::Park => {}
             Application::Transfer { to: _to } => {}
+            Application::FifoIn { name: _name } => {}
+            Application::FifoOut {
+                name: _name,
+                waits: _,
+            } => {}
             Application::Unknown => {}
         }
     }

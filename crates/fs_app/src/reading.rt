@@ -7,6 +7,7 @@ ghost use Rattle.fs_chan.specs.Targets.{target_in};
 use crate::application::Application;
 use fs_chan::{Assignment, target_in};
 use fs_text::{Cause, Memory, Txt, cut_word, read_u64, without_spaces};
+use memchr::memrchr;
 use std::alloc::Global;
 
 /// The most milliseconds that `sleep` takes: an hour.
@@ -40,6 +41,8 @@ impl Application {
             Ok(Application::Park)
         } else if name == b"transfer".as_slice() {
             transfer_application(alloc, without_spaces(argument))
+        } else if name == b"fifo".as_slice() {
+            fifo_application(alloc, without_spaces(argument))
         } else {
             Ok(Application::Unknown)
         }
@@ -72,5 +75,39 @@ fn transfer_application(alloc: Global, words: &[u8]) -> Result<Application, Memo
     match target_in(alloc, words)? {
         Some(to) => Ok(Application::Transfer { to }),
         None => Ok(Application::Unknown),
+    }
+}
+
+// What is done in the queue that the first word names: the second says what, the third whether a taker waits.
+fn fifo_application(alloc: Global, words: &[u8]) -> Result<Application, Memory>
+    ensures application { IfOk result (λ application. application ≡ spec.fifo_in words.now) }
+    ensures short { IfOk result spec.IsShortApplication }
+{
+    let (word, behind) = cut_word(words);
+    let (what, more) = cut_word(behind);
+    let (third, _) = cut_word(more);
+    let name = queue_name(word);
+    if name.is_empty() {
+        return Ok(Application::Unknown);
+    }
+    if what == b"in".as_slice() {
+        let name = Txt::of(alloc, name)?;
+        Ok(Application::FifoIn { name })
+    } else if what == b"out".as_slice() {
+        let name = Txt::of(alloc, name)?;
+        let waits = third != b"nowait".as_slice();
+        Ok(Application::FifoOut { name, waits })
+    } else {
+        Ok(Application::Unknown)
+    }
+}
+
+// The name of a queue, which a word gives with its importance behind a `!`.
+fn queue_name(word: &[u8]) -> &[u8]
+    ensures { result.now ≡ spec.queue_name word.now }
+{
+    match memrchr(b'!', word) {
+        Some(last) => &word[..last],
+        None => word,
     }
 }

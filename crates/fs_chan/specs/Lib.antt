@@ -5,4 +5,5 @@ pub mod Changes
 pub mod Work
 pub mod Headers
 pub mod Bridging
+pub mod Queueing
 pub mod Targets

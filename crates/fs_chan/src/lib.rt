@@ -13,8 +13,10 @@ mod left;
 mod moment;
 mod peer;
 mod profile;
+mod queueing;
 mod shared;
 mod target;
+mod turn;
 mod wait;
 mod work;
 
@@ -28,5 +30,6 @@ pub use peer::{Direction, Peer};
 pub use profile::SharedProfile;
 pub use shared::SharedVars;
 pub use target::{Target3, target_in};
+pub use turn::Turn;
 pub use wait::Wait;
 pub use work::due_law;

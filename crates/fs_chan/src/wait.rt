@@ -1,6 +1,7 @@
 //! What a channel waits for.
 ghost use Rattle.std.specs.Prelude.{◌≡◌, IfOk};
 
+use crate::turn::Turn;
 use fs_text::{Memory, Txt};
 
 /// What a channel waits for.
@@ -16,8 +17,8 @@ pub enum Wait {
     Legs { orig: u64 },
     /// The end of its bridge.
     Bridged,
-    /// Somebody who takes it out of its queue.
-    FifoIn,
+    /// Somebody who takes it out of the queue of this name, where it has this turn.
+    FifoIn { name: Txt, turn: Turn },
     /// A caller in the queue of this name.
     FifoOut { name: Txt },
     /// A link to the target that this text names.
@@ -37,7 +38,10 @@ impl Wait {
             Wait::Parked => Wait::Parked,
             Wait::Legs { orig } => Wait::Legs { orig: *orig },
             Wait::Bridged => Wait::Bridged,
-            Wait::FifoIn => Wait::FifoIn,
+            Wait::FifoIn { name, turn } => Wait::FifoIn {
+                name: name.copy()?,
+                turn: *turn,
+            },
             Wait::FifoOut { name } => Wait::FifoOut { name: name.copy()? },
             Wait::Dial { text } => Wait::Dial { text: text.copy()? },
             Wait::Socket { conn } => Wait::Socket { conn: *conn },

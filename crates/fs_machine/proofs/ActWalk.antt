@@ -65,9 +65,9 @@ use Rattle.fs_machine.specs.Attempts.{after_verdict_on}
 use Rattle.fs_machine.specs.Owing.{job_uuid, background_begun, job_event}
 use Rattle.fs_machine.specs.Jobs.{told_if, command_run, after_job_work, job_done_from, job_done}
 use Rattle.fs_machine.specs.Done.{Done, says, no_reply_yet}
-use Rattle.fs_machine.specs.Joining.{both_left, in_the_way, after_leaving, both_in_media, joined_done, bridged_unless, bridge_done_at}
+use Rattle.fs_machine.specs.Joining.{both_left, both_queues_left, in_the_way, after_leaving, both_in_media, joined_done, bridged_unless, bridge_done_at}
 use Rattle.fs_machine.specs.Joining.{uuid_bridge_done, is_ready}
-use Rattle.fs_machine.specs.Leaving.{after_departure, after_arrival, sent_at, sent_done}
+use Rattle.fs_machine.specs.Leaving.{after_departure, after_farewell, after_arrival, sent_at, sent_done}
 use Rattle.fs_state.specs.Leaving.{after_leaving_others}
 use Rattle.fs_machine.proofs.LeaveLemmas.{left_free, parked_stays, transferred_stays}
 use Rattle.fs_machine.proofs.BondLeaves.{departed_lone}
@@ -103,7 +103,19 @@ use Rattle.fs_machine.proofs.StayLemmas.{moved_plain, early_vars, same_vars, qui
 use Rattle.fs_machine.proofs.LimitLemmas.{with_set_limited}
 use Rattle.fs_machine.proofs.TryWalk.{verdict_kept}
 use Rattle.fs_machine.proofs.Walk.{worked_kept}
+use Rattle.fs_machine.proofs.AbortLemmas.{queue_left_kept, queues_left_kept}
+use Rattle.fs_state.specs.Queues.{queue_event}
+use Rattle.fs_state.specs.declared.event.QueueAction.TheVariants.{Abort}
 use Rattle.fs_machine.proofs.RestLemmas.{hung_rest, does_same}
+
+-- ---- queues that were left
+
+left_apart : (before : Switch) (a b slot : ℕ) (s : Switch) → IsApart s slot → IsApart (both_queues_left before a b s) slot
+left_apart before a b slot s h =
+    queues_left_kept (λ (t : Switch). IsApart t slot) (λ name at t k. record { bridge = k.bridge; lone = k.lone }) before a b s h
+
+left_dialless : (before : Switch) (a b slot : ℕ) (s : Switch) → DialsNone s slot → DialsNone (both_queues_left before a b s) slot
+left_dialless before a b slot s h = queues_left_kept (λ (t : Switch). DialsNone t slot) (λ name at t k. k) before a b s h
 
 -- ---- the end of the switch
 
@@ -244,12 +256,17 @@ module _ (who : Giver) (P : Fact) (calls : KeptByCalls P) (commands : KeptByApi 
           let left : SameDrawn s (both_left a b s) = both_left_drawn a b s apart.0 apart.1 in
           let one = apart_hung a named s apart.0 in
           let two = apart_hung b named s apart.1 in
-          joined_kept a b other (apart_left a b (after_leaving a t) (apart_left a a t one))
-          (apart_left b b (after_leaving a t) (apart_left b a t two))
-          (left_dials_still a b (after_leaving a t) (left_dials a t)) (left_dials b (after_leaving a t))
-          (record { past = s; first = h; apart = apart.0.bridge; drawn = left })
-          (record { past = s; first = h; apart = apart.1.bridge; drawn = left })
-          (calls.leaves a b apart.0 apart.1 h (commands.spent h))
+          let u : Switch = both_left a b s in
+          let drawn : SameDrawn s (both_queues_left s a b u) =
+          queues_left_kept (λ (v : Switch). SameDrawn s v) (λ name slot v k. k) s a b u left in
+          joined_kept a b other (left_apart s a b a u (apart_left a b (after_leaving a t) (apart_left a a t one)))
+          (left_apart s a b b u (apart_left b b (after_leaving a t) (apart_left b a t two)))
+          (left_dialless s a b a u (left_dials_still a b (after_leaving a t) (left_dials a t)))
+          (left_dialless s a b b u (left_dials b (after_leaving a t)))
+          (record { past = s; first = h; apart = apart.0.bridge; drawn = drawn })
+          (record { past = s; first = h; apart = apart.1.bridge; drawn = drawn })
+          (queues_left_kept (P (Some 0)) (λ name slot v k. calls.touches.told (queue_event Abort name slot) (refl, tt) k) s a b u
+          (calls.leaves a b apart.0 apart.1 h (commands.spent h)))
 
       by : (first second : Option ℕ) → P (Some 0) (bridge_done_at first second other s).state
       by (Some a) (Some b) = way a b (in_the_way a b s) refl
@@ -277,12 +294,17 @@ module _ (who : Giver) (P : Fact) (calls : KeptByCalls P) (commands : KeptByApi 
   sent_kept change uuid stays {s} h = by (slot_named uuid s)
     where
       ready : (slot : ℕ) (test : Bool) → is_ready (chan_at s slot) ≡ test →
-          P (Some 0) (if test then says ok (after_arrival change slot (after_departure slot s)) else says not_ready s).state
+          P (Some 0) (if test then says ok (after_arrival change slot (after_farewell slot s)) else says not_ready s).state
       ready slot true is =
+          let t : Switch = after_departure slot s in
           arrived_kept change slot
           (λ c there live.
-          stays c live (departed_lone slot slot s (ready_lone (chan_at s slot) is) c there) (left_free slot (after_leaving_others slot s) c there))
-          (calls.departs slot h (commands.spent h))
+          let stood : chan_at t slot ≡ Some c =
+          queue_left_kept (λ (v : Switch). chan_at v slot ≡ Some c → chan_at t slot ≡ Some c) (λ name at v k. k) s slot t (λ is. is) there in
+          stays c live (departed_lone slot slot s (ready_lone (chan_at s slot) is) c stood)
+          (left_free slot (after_leaving_others slot s) c stood))
+          (queue_left_kept (P (Some 0)) (λ name at v k. calls.touches.told (queue_event Abort name at) (refl, tt) k) s slot t
+          (calls.departs slot h (commands.spent h)))
       ready slot false is = commands.spent h
 
       by : (found : Option ℕ) → P (Some 0) (sent_at change found s).state

@@ -40,7 +40,8 @@ use Rattle.fs_machine.proofs.TieLemmas.{lives_as}
 use Rattle.fs_machine.proofs.HangLemmas.{Settles, Freed, Resumes, Halts, hangups_kept_by}
 use Rattle.fs_machine.proofs.ClosureLemmas.{hangs_up}
 use Rattle.fs_machine.proofs.CutLemmas.{DeadAt, hangup_kills}
-use Rattle.fs_machine.proofs.WonLemmas.{answerer_lives, joinable_won_kept}
+use Rattle.fs_machine.proofs.CanLemmas.{answerer_lives}
+use Rattle.fs_machine.proofs.WonLemmas.{joinable_won_kept}
 use Rattle.fs_machine.proofs.Walk.{disposed_kept}
 use Rattle.fs_machine.proofs.OwnerLemmas.{KeepsOwner, leg_keeps}
 use Rattle.fs_machine.proofs.BondTables.{NoSlot}

@@ -32,6 +32,9 @@ use Rattle.fs_machine.proofs.HangLemmas.{given_up_kept}
 use Rattle.fs_machine.proofs.TieLemmas.{HungAs, hung_by}
 use Rattle.fs_state.specs.Hangups.{world_of, living_of, lives_at, has_peer, Ended, after_end, after_ends, unbridge_event, is_leg_of}
 use Rattle.fs_state.specs.Hangups.{with_end_told, untold_by}
+use Rattle.fs_state.specs.declared.event.QueueAction.TheVariants.{Abort}
+use Rattle.fs_state.specs.Queues.{queue_event, abort_told}
+use Rattle.fs_machine.proofs.AbortLemmas.{abort_kept}
 use Rattle.fs_state.specs.Hangups.{after_member, after_members, after_outliving, after_survival, after_survivals, after_closure}
 use Rattle.fs_state.specs.Hangups.{after_hangups}
 use Rattle.fs_machine.specs.Sound.{is_idle}
@@ -404,8 +407,9 @@ module _ (survivors : List (ℕ × After)) (bridges : BridgeRows) where
   members_ended untold [] t none h = h
   members_ended untold (m ∷ members) t none h =
       members_ended (untold_by m.0 untold) members (after_member untold m t) (λ other one. none other (inr one))
-      (one_ended m.1 m.0 (with_end_told (find (is_leg_of m.0) untold) t) (none m (inl refl))
-      (tells_ended (find (is_leg_of m.0) untold) t h))
+      (one_ended m.1 m.0 (with_end_told (find (is_leg_of m.0) untold) (abort_told m.0 t)) (none m (inl refl))
+      (tells_ended (find (is_leg_of m.0) untold) (abort_told m.0 t)
+      (abort_kept (AllEnd survivors bridges) m.0 (λ name u k. told_ended (queue_event Abort name m.0) u k) t h)))
 
   -- whoever is part of no bridge names no peer
   peerless : (t : Switch) (slot : ℕ) (c : Chan) → part_of slot bridges ≡ None → AllEnd survivors bridges t → chan_at t slot ≡ Some c →

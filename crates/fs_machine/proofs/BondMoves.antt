@@ -47,7 +47,8 @@ use Rattle.fs_machine.proofs.HangLemmas.{given_up_kept}
 use Rattle.fs_machine.proofs.JoinLemmas.{both_left_kept, rest_dials}
 use Rattle.fs_machine.proofs.NameLemmas.{leg_chan, far_chan, pair_channels}
 use Rattle.fs_machine.proofs.Walk.{disposed_kept, group_made_kept}
-use Rattle.fs_machine.proofs.WonLemmas.{joins_apart, caller_lone, answerer_lone, caller_lives, answerer_lives, bridge_won_kept}
+use Rattle.fs_machine.proofs.CanLemmas.{joins_apart, caller_lone, answerer_lone, caller_lives, answerer_lives}
+use Rattle.fs_machine.proofs.WonLemmas.{bridge_won_kept}
 use Rattle.fs_machine.proofs.FrontLemmas.{Front, front_of, orig_changed_front, moves_by_front}
 use Rattle.fs_machine.proofs.LegLemmas.{Channels, roles_of, IsLegOf, LegsStand}
 use Rattle.fs_machine.proofs.LegHangups.{winning_leg}

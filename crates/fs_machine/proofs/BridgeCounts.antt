@@ -39,6 +39,9 @@ use Rattle.fs_state.specs.Moves.{application_event, running_at, orig_changed_fro
 use Rattle.fs_state.specs.Moves.{given_up_by, orig_given_up, after_hangup_from, after_one_hangup, after_completion}
 use Rattle.fs_state.specs.Hangups.{lives_at, world_of, living_of, Ended, after_end, after_ends, unbridge_event, is_leg_of, with_end_told}
 use Rattle.fs_state.specs.Hangups.{untold_by, after_member, after_members, after_outliving, after_survival, after_survivals, after_closure}
+use Rattle.fs_state.specs.declared.event.QueueAction.TheVariants.{Abort}
+use Rattle.fs_state.specs.Queues.{queue_event, abort_told}
+use Rattle.fs_machine.proofs.AbortLemmas.{abort_kept}
 use Rattle.fs_state.specs.Hangups.{after_hangups}
 use Rattle.fs_state.specs.Leaving.{after_parting}
 use Rattle.fs_machine.specs.BridgeEvents.{tells_begin, tells_end, begins, ends, begun, ended, EndsStandBehind}
@@ -261,6 +264,11 @@ pub told_tells : (past : List Event) (more : ℕ → ℕ) (event : Event) (s : S
 told_tells past more event s none h =
     told_by past more more event s none.0 (λ number. no_begin number event none)
     (λ number. let told = ap one_if (no_end number event none) in omega (arith, told)) h
+
+-- and a caller that leaves its queue
+abort_tells : (past : List Event) (more : ℕ → ℕ) (slot : ℕ) (s : Switch) → TellsBut past more s → TellsBut past more (abort_told slot s)
+abort_tells past more slot s h =
+    abort_kept (TellsBut past more) slot (λ name t k. told_tells past more (queue_event Abort name slot) t (refl, tt) k) s h
 
 pub same_tells : (past : List Event) (more : ℕ → ℕ) (t u : Switch) → tidings_of u ≡ tidings_of t → TellsBut past more t →
     TellsBut past more u
@@ -516,8 +524,8 @@ module _ (past : List Event) where
   members_tell over [] s are h = as_many past (untold over) (λ number. 0) s (λ number. none_left over number are) h
   members_tell over (m ∷ members) s are h =
       members_tell (untold_by m.0 over) members (after_member over m s) (later_told over m members are)
-      (one_hung_tells past (untold (untold_by m.0 over)) m.1 m.0 (with_end_told (find (is_leg_of m.0) over) s)
-      (end_told over m.0 s (are.one m.0) h))
+      (one_hung_tells past (untold (untold_by m.0 over)) m.1 m.0 (with_end_told (find (is_leg_of m.0) over) (abort_told m.0 s))
+      (end_told over m.0 (abort_told m.0 s) (are.one m.0) (abort_tells past (untold over) m.0 s h)))
 
   -- ---- all of it
 

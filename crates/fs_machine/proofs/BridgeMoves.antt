@@ -18,7 +18,7 @@ use Rattle.fs_machine.specs.declared.call.Call.{Call}
 use Rattle.fs_machine.specs.BridgeEvents.{begun, ended}
 use Rattle.fs_machine.specs.Originations.{leg_end, far_end, named_end_made, end_made, pair_made, won_by, after_winning}
 use Rattle.fs_machine.proofs.Kept.{Stage, Fact, KeptByBirths, raced, KeptByMoves}
-use Rattle.fs_machine.proofs.WonLemmas.{joins_apart, caller_lone, answerer_lone}
+use Rattle.fs_machine.proofs.CanLemmas.{joins_apart, caller_lone, answerer_lone}
 use Rattle.fs_machine.proofs.FrontLemmas.{Front, front_of, KeptByRemains, calls_by_remains, dials_by_remains, moves_by_front}
 use Rattle.fs_machine.proofs.BondRows.{joined_fit}
 use Rattle.fs_machine.proofs.BridgeCounts.{Tidings, tidings_of, drawn_next, Tells, changed_tidings, begun_push, ended_push, bridge_begins}

@@ -21,6 +21,7 @@ use Rattle.fs_state.specs.Switch.{Switch, chan_at, with_chan}
 use Rattle.fs_state.specs.Moves.{orig_changed, after_one_hangup}
 use Rattle.fs_state.specs.Hangups.{lives, lives_at, world_of, living_of, Ended, is_leg_of, with_end_told, untold_by, after_member}
 use Rattle.fs_state.specs.Hangups.{after_members}
+use Rattle.fs_state.specs.Queues.{abort_told}
 use Rattle.fs_state.specs.Hangups.{after_ends, after_survivals, after_hangups, after_hangup, after_hangups_for}
 use Rattle.fs_machine.proofs.StayLemmas.{hangup_dead, orig_changed_channels}
 use Rattle.fs_machine.proofs.TieLemmas.{lives_as, lives_in, HungAs, hung_by}
@@ -90,7 +91,7 @@ dies_in untold [] slot t is = absurd (false≢true is)
 dies_in untold (m ∷ members) slot t is = by (λ u there. dies_in (untold_by m.0 untold) members slot u there) (cases_eq slot m.0)
   where
     u : Switch
-    u = with_end_told (find (is_leg_of m.0) untold) t
+    u = with_end_told (find (is_leg_of m.0) untold) (abort_told m.0 t)
 
     later : (slot ≡ m.0 → ⊥) → has_slot slot members ≡ true
     later other =

@@ -7,7 +7,14 @@ use Rattle.std.proofs.lemmas.Option.{none-some, same_Some}
 use Rattle.fs_chan.specs.declared.chan.Chan.{Chan}
 use Rattle.fs_chan.specs.declared.due.Due.{Due}
 use Rattle.fs_chan.specs.declared.due.Due.TheVariants.{Now, At}
-use Rattle.fs_chan.specs.Bridging.{awaited_by}
+use Rattle.fs_text.specs.declared.states.State.{State}
+use Rattle.fs_text.specs.declared.states.State.TheVariants.{CsExecute, CsPark}
+use Rattle.fs_chan.specs.declared.wait.Wait.{Wait}
+use Rattle.fs_chan.specs.declared.wait.Wait.TheVariants.{Legs}
+use Rattle.fs_chan.specs.Bridging.{awaited_in, awaited_by}
+use Rattle.fs_chan.specs.Queueing.{wanted_in, wanted_by}
+use Rattle.fs_text.specs.Texts.{Text}
+use Rattle.fs_state.specs.Queues.{has_caller}
 use Rattle.fs_chan.specs.Work.{due_at}
 use Rattle.fs_chan.proofs.WorkLemmas.{has_come, due_now, has_come_at, never_later}
 use Rattle.fs_doc.specs.Reading.{Configuration}
@@ -24,12 +31,12 @@ use Rattle.fs_seats.proofs.LeastLemmas.{lesser_is, least_held, least_never}
 use Rattle.fs_state.specs.declared.job.Job.{Job}
 use Rattle.fs_state.specs.declared.job.JobWork.{JobWork}
 use Rattle.fs_state.specs.declared.job.JobWork.TheVariants.{Run, Sleep, Originate}
-use Rattle.fs_state.specs.Switch.{Switch, empty, orig_of, job_of, at_moment}
+use Rattle.fs_state.specs.Switch.{Switch, empty, chan_at, orig_of, job_of, at_moment}
 use Rattle.fs_machine.specs.declared.due.DueActor.{DueActor}
 use Rattle.fs_machine.specs.declared.due.DueActor.TheVariants as actor
 use Rattle.fs_machine.specs.declared.entry.Entry.{Entry}
 use Rattle.fs_machine.specs.declared.entry.Act.TheVariants.{Work, Job as Works}
-use Rattle.fs_machine.specs.Due.{slot_due, orig_due, due_by, work_due, job_due, is_now, later_of, is_due, due_slot, chan_moment, row_moment}
+use Rattle.fs_machine.specs.Due.{slot_due, orig_due, due_wanting, due_by, work_due, job_due, is_now, later_of, is_due, due_slot, chan_moment, row_moment}
 use Rattle.fs_machine.specs.Due.{number_where, due_number, due_job, first_chan_moment, first_job_moment, actor_or, later_or_never}
 use Rattle.fs_machine.specs.Due.{due_among_all, next_due}
 use Rattle.fs_machine.specs.Step.{not_due, refused_act}
@@ -162,10 +169,20 @@ work_comes s now moment Run is = absurd (cc)
 work_comes s now moment (Sleep until) is = ap Some (has_come_at now until moment (same_Some (due_at now until) (At moment) is))
 work_comes s now moment (Originate orig winner caller) is = orig_comes now moment (orig_of s orig) is
 
+-- a caller is there at once, if there is one
+wants_come : (s : Switch) (now moment : ℕ) (c : Chan) (wanted : Option Text) →
+    due_wanting (record s { moment = now }) c wanted ≡ Some (At moment) → due_wanting (record s { moment = moment }) c wanted ≡ Some Now
+wants_come s now moment c None is = has_come now moment c is
+wants_come s now moment c (Some name) is = by (has_caller name s) is
+  where
+    by : (has : Bool) → (if has then Some Now else None) ≡ Some (At moment) → (if has then Some Now else None) ≡ Some Now
+    by true h = refl
+    by false h = absurd (cc)
+
 -- what the channel waits for, or the verdict on what it dialed
 waits_come : (s : Switch) (now moment : ℕ) (c : Chan) (awaited : Option ℕ) →
     due_by (record s { moment = now }) c awaited ≡ Some (At moment) → due_by (record s { moment = moment }) c awaited ≡ Some Now
-waits_come s now moment c None is = has_come now moment c is
+waits_come s now moment c None is = wants_come s now moment c (wanted_by c) is
 waits_come s now moment c (Some orig) is = orig_comes now moment (orig_of s orig) is
 
 chan_comes : (s : Switch) (now moment : ℕ) (held : Option Chan) → chan_moment (record s { moment = now }) held ≡ Some moment →
@@ -238,3 +255,18 @@ comes_due s now moment is =
   where
     twice : max s.moment (max s.moment now) ≡ max s.moment now
     twice = omega arith
+
+-- ---- whoever waits for a caller
+
+wants_no_legs : (state : State) (wait : Wait) (name : Text) → wanted_in state wait ≡ Some name → awaited_in wait ≡ None
+wants_no_legs CsExecute (Legs orig) name is = absurd (none-some name is)
+wants_no_legs CsPark (Legs orig) name is = absurd (none-some name is)
+wants_no_legs _ (Legs orig) name is = absurd (none-some name is)
+wants_no_legs state _ name is = refl
+
+pub takers_due : (s : Switch) (slot : ℕ) (c : Chan) (name : Text) → chan_at s slot ≡ Some c → wanted_by c ≡ Some name →
+    slot_due slot s ≡ (if has_caller name s then Some Now else None)
+takers_due s slot c name there wants =
+    ap (option_and_then (λ (d : Chan). due_by s d (awaited_by d))) there
+    ∙ ap (due_by s c) (wants_no_legs c.state c.wait name wants)
+    ∙ ap (due_wanting s c) wants

@@ -1,9 +1,11 @@
 -- A moment that is told is still to come.
-use Rattle.std.proofs.Common.{◌≡◌, ℕ, ◌<◌, max, Option, None, Some, refl, arith}
+use Rattle.std.proofs.Common.{◌≡◌, ℕ, ◌<◌, max, Bool, true, false, if◌then◌else◌, Option, None, Some, refl, arith}
+use Rattle.fs_text.specs.Texts.{Text}
 use Rattle.fs_chan.specs.declared.chan.Chan.{Chan}
 use Rattle.fs_chan.specs.declared.due.Due.{Due}
 use Rattle.fs_chan.specs.declared.due.Due.TheVariants.{Now, At}
 use Rattle.fs_chan.specs.Bridging.{awaited_by}
+use Rattle.fs_chan.specs.Queueing.{wanted_by}
 use Rattle.fs_chan.proofs.WorkLemmas.{is_to_come, to_come_at}
 use Rattle.fs_orig.specs.declared.orig.Orig.{Orig}
 use Rattle.fs_orig.specs.Verdicts as verdicts
@@ -13,9 +15,10 @@ use Rattle.fs_seats.proofs.LeastLemmas.{IsAfter, lesser_after, least_after}
 use Rattle.fs_state.specs.declared.job.Job.{Job}
 use Rattle.fs_state.specs.declared.job.JobWork.{JobWork}
 use Rattle.fs_state.specs.declared.job.JobWork.TheVariants.{Run, Sleep, Originate}
+use Rattle.fs_state.specs.Queues.{has_caller}
 use Rattle.fs_state.specs.Switch.{Switch, orig_of, at_moment}
 use Rattle.fs_machine.specs.declared.due.DueActor.TheVariants as actor
-use Rattle.fs_machine.specs.Due.{orig_due, due_by, work_due, later_of, chan_moment, row_moment, due_slot, due_job, first_chan_moment}
+use Rattle.fs_machine.specs.Due.{orig_due, due_wanting, due_by, work_due, later_of, chan_moment, row_moment, due_slot, due_job, first_chan_moment}
 use Rattle.fs_machine.specs.Due.{first_job_moment, later_or_never, due_among_all}
 
 later_at : (due : Option Due) (n : ℕ) → later_of due ≡ Some n → due ≡ Some (At n)
@@ -27,9 +30,18 @@ orig_after : (now : ℕ) (orig : Option Orig) (n : ℕ) → orig_due now orig �
 orig_after now None n h = absurd (cc)
 orig_after now (Some o) n h = to_come_at now (verdicts.due_moment_of now o) n (cc)
 
+-- a caller is there at once, if there is one
+wants_after : (s : Switch) (c : Chan) (wanted : Option Text) (n : ℕ) → due_wanting s c wanted ≡ Some (At n) → s.moment < n
+wants_after s c None n h = is_to_come s.moment n c h
+wants_after s c (Some name) n h = by (has_caller name s) h
+  where
+    by : (has : Bool) → (if has then Some Now else None) ≡ Some (At n) → s.moment < n
+    by true h = absurd (cc)
+    by false h = absurd (cc)
+
 -- by what the channel waits for, or by the verdict on what it dialed
 waits_after : (s : Switch) (c : Chan) (awaited : Option ℕ) (n : ℕ) → due_by s c awaited ≡ Some (At n) → s.moment < n
-waits_after s c None n h = is_to_come s.moment n c h
+waits_after s c None n h = wants_after s c (wanted_by c) n h
 waits_after s c (Some orig) n h = orig_after s.moment (orig_of s orig) n h
 
 chan_after : (s : Switch) (chan : Option Chan) → IsAfter s.moment (chan_moment s chan)

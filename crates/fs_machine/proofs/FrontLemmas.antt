@@ -72,7 +72,8 @@ use Rattle.fs_machine.proofs.LeaveLemmas.{others_left}
 use Rattle.fs_machine.proofs.BondLemmas.{row_seen}
 use Rattle.fs_machine.proofs.Walk.{disposed_kept, group_made_kept}
 use Rattle.fs_machine.proofs.RestLemmas.{whichever}
-use Rattle.fs_machine.proofs.WonLemmas.{answerer_lives, bridge_won_kept}
+use Rattle.fs_machine.proofs.CanLemmas.{answerer_lives}
+use Rattle.fs_machine.proofs.WonLemmas.{bridge_won_kept}
 
 -- what is left of a switch without connections, jobs, originations and what they are given
 pub record Front : Type 0 where

@@ -21,6 +21,9 @@ use Rattle.fs_state.specs.Moves.{application_event, running_at, with_state_event
 use Rattle.fs_state.specs.Moves.{is_owner, its_leg_changed, hangup_event, given_up_by, orig_given_up, after_hangup_from, after_one_hangup}
 use Rattle.fs_state.specs.Hangups.{lives, lives_at, world_of, Ended, after_end, after_ends, unbridge_event, is_leg_of, with_end_told}
 use Rattle.fs_state.specs.Hangups.{untold_by, after_member}
+use Rattle.fs_state.specs.declared.event.QueueAction.TheVariants.{Abort}
+use Rattle.fs_state.specs.Queues.{queue_event, abort_told}
+use Rattle.fs_machine.proofs.AbortLemmas.{abort_kept}
 use Rattle.fs_state.specs.Hangups.{after_members, after_outliving, after_survival, after_survivals, after_closure, living_of, after_hangups}
 use Rattle.fs_machine.proofs.ClosureLemmas.{members_for, hangs_up, survivors_stay}
 use Rattle.fs_machine.proofs.StayLemmas.{state_told_kept, differing_kept, moved_there, changed_there}
@@ -94,8 +97,9 @@ module _ (hangs : ℕ → Bool) (P : Switch → Type 0) (told : (event : Event) 
   members_kept_by untold [] s all h = h
   members_kept_by untold (m ∷ members) s all h =
       members_kept_by (untold_by m.0 untold) members (after_member untold m s) (λ other one. all other (inr one))
-      (one_hung m.1 m.0 (with_end_told (find (is_leg_of m.0) untold) s) (all m (inl refl))
-      (end_told_kept (find (is_leg_of m.0) untold) s h))
+      (one_hung m.1 m.0 (with_end_told (find (is_leg_of m.0) untold) (abort_told m.0 s)) (all m (inl refl))
+      (end_told_kept (find (is_leg_of m.0) untold) (abort_told m.0 s)
+      (abort_kept P m.0 (λ name t k. told (queue_event Abort name m.0) t k) s h)))
 
   -- ---- who outlives a bridge
 

@@ -24,7 +24,7 @@ use Rattle.fs_machine.proofs.LegHangups.{winning_leg}
 use Rattle.fs_machine.proofs.BondTables.{Bonds}
 use Rattle.fs_machine.proofs.BondHangups.{leg_held}
 use Rattle.fs_machine.proofs.AwaitedLemmas.{Awaits}
-use Rattle.fs_machine.proofs.WonLemmas.{can_join_by}
+use Rattle.fs_machine.proofs.CanLemmas.{can_join_by}
 
 -- the channel in a slot waits for an origination
 record IsWaitingFor (s : Switch) (slot orig : ℕ) : Type 0 where

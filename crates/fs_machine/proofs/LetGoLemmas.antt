@@ -40,6 +40,9 @@ use Rattle.fs_state.specs.Moves.{application_event, running_at, its_leg_changed,
 use Rattle.fs_state.specs.Moves.{after_one_hangup, after_completion}
 use Rattle.fs_state.specs.Hangups.{lives_at, world_of, living_of, row_at, Ended, after_end, after_ends, unbridge_event, is_leg_of}
 use Rattle.fs_state.specs.Hangups.{with_end_told, untold_by, after_member, after_members, after_outliving, after_survival, after_survivals}
+use Rattle.fs_state.specs.declared.event.QueueAction.TheVariants.{Abort}
+use Rattle.fs_state.specs.Queues.{queue_event, abort_told}
+use Rattle.fs_machine.proofs.AbortLemmas.{abort_kept}
 use Rattle.fs_state.specs.Hangups.{after_closure, after_hangups}
 use Rattle.fs_state.specs.Leaving.{dropped_by, after_parting, after_leaving_others}
 use Rattle.fs_machine.specs.FirstEnds.{IsLetGo}
@@ -473,8 +476,9 @@ module _ (before : Switch) (known : Ended → Type 0) where
   core_members untold (m ∷ members) s are h =
       core_members (untold_by m.0 untold) members (after_member untold m s)
       (λ e one. are e (one_passes (λ (x : Ended). not (is_leg_of m.0 x)) e untold one).0)
-      (one_hung m.1 m.0 (with_end_told (find (is_leg_of m.0) untold) s)
-      (end_told (find (is_leg_of m.0) untold) s (λ e is. are e (found_one (is_leg_of m.0) untold e is)) h))
+      (one_hung m.1 m.0 (with_end_told (find (is_leg_of m.0) untold) (abort_told m.0 s))
+      (end_told (find (is_leg_of m.0) untold) (abort_told m.0 s) (λ e is. are e (found_one (is_leg_of m.0) untold e is))
+      (abort_kept (Core before known) m.0 (λ name t k. core_told (queue_event Abort name m.0) t (refl, tt) k) s h)))
 
   -- ---- who outlives a bridge
 

@@ -1,3 +1,4 @@
+pub mod AbortLemmas
 pub mod ArgumentLemmas
 pub mod RunLemmas
 pub mod GroupLemmas
@@ -19,6 +20,7 @@ pub mod CutLemmas
 pub mod StopLemmas
 pub mod LivingLemmas
 pub mod TryWalk
+pub mod CanLemmas
 pub mod Walk
 pub mod WonLemmas
 pub mod RestLemmas

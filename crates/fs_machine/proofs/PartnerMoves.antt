@@ -19,6 +19,8 @@ use Rattle.fs_seats.proofs.HeldLemmas.{IsFree, held_here, held_there, held_withi
 use Rattle.fs_state.specs.Switch.{Switch, chan_at, with_chan, without_bridge, without_orig, with_event}
 use Rattle.fs_state.specs.Moves.{after_move_from, after_move, orig_changed, partner_of, after_one_hangup}
 use Rattle.fs_state.specs.Hangups.{world_of, living_of, Ended, after_ends, is_leg_of, with_end_told, untold_by, after_member, after_members}
+use Rattle.fs_state.specs.Queues.{abort_told}
+use Rattle.fs_machine.proofs.AbortLemmas.{abort_channels}
 use Rattle.fs_state.specs.Hangups.{after_survivals, after_hangups}
 use Rattle.fs_machine.specs.declared.call.Call.{Call}
 use Rattle.fs_machine.specs.Originations.{pair_made, won_by, after_winning}
@@ -169,11 +171,13 @@ cut_in untold (m ∷ members) slot t is live =
     by (λ u there alive. cut_in (untold_by m.0 untold) members slot u there alive) (cases_eq slot m.0)
   where
     u : Switch
-    u = with_end_told (find (is_leg_of m.0) untold) t
+    u = with_end_told (find (is_leg_of m.0) untold) (abort_told m.0 t)
 
     alive : lives_in u.channels slot ≡ true
     alive =
-        ap (λ (channels : List (Option Chan)). lives_in channels slot) (end_told_channels (find (is_leg_of m.0) untold) t) ∙ live
+        ap (λ (channels : List (Option Chan)). lives_in channels slot)
+        (end_told_channels (find (is_leg_of m.0) untold) (abort_told m.0 t) ∙ abort_channels m.0 t)
+        ∙ live
 
     later : (slot ≡ m.0 → ⊥) → has_slot slot members ≡ true
     later other =

@@ -81,8 +81,26 @@ target_short : (to : Option Target3) → IfSome to IsShortTarget → apps.IsShor
 target_short None short = tt
 target_short (Some to) short = short
 
+-- what is done in a queue has none
+queued_short : (name what third : Text) → apps.IsShortApplication (apps.queued_by name what third)
+queued_short name what third = by (length name == 0) (bytes_eq what (codes "in")) (bytes_eq what (codes "out"))
+  where
+    by : (none enters takes : Bool) →
+        apps.IsShortApplication
+        (if none then app.Unknown
+        else (if enters then app.FifoIn name else (if takes then app.FifoOut name (apps.waits_by third) else app.Unknown)))
+    by true enters takes = tt
+    by false true takes = tt
+    by false false true = tt
+    by false false false = tt
+
+fifo_short : (argument : Text) → apps.IsShortApplication (apps.fifo_application argument)
+fifo_short argument =
+    let words = without_spaces argument in
+    queued_short (apps.queue_name (word_of words)) (word_of (behind_word words)) (word_of (behind_word (behind_word words)))
+
 -- whichever name it has
-app_short : (answers evals sleeps hangs_up bridges parks transfers : Bool) (argument : Text) →
+app_short : (answers evals sleeps hangs_up bridges parks transfers queues : Bool) (argument : Text) →
     apps.IsShortApplication
     (if answers then app.Answer
     else (if evals then app.Eval
@@ -91,15 +109,17 @@ app_short : (answers evals sleeps hangs_up bridges parks transfers : Bool) (argu
     else (if bridges then app.Bridge argument
     else (if parks then app.Park
     else (if transfers then apps.transfer_to (target_in (without_spaces argument))
-    else app.Unknown)))))))
-app_short true evals sleeps hangs_up bridges parks transfers argument = tt
-app_short false true sleeps hangs_up bridges parks transfers argument = tt
-app_short false false true hangs_up bridges parks transfers argument = tt
-app_short false false false true bridges parks transfers argument = tt
-app_short false false false false true parks transfers argument = tt
-app_short false false false false false true transfers argument = tt
-app_short false false false false false false true argument = target_short _ (words_short (without_spaces argument))
-app_short false false false false false false false argument = tt
+    else (if queues then apps.fifo_application argument
+    else app.Unknown))))))))
+app_short true evals sleeps hangs_up bridges parks transfers queues argument = tt
+app_short false true sleeps hangs_up bridges parks transfers queues argument = tt
+app_short false false true hangs_up bridges parks transfers queues argument = tt
+app_short false false false true bridges parks transfers queues argument = tt
+app_short false false false false true parks transfers queues argument = tt
+app_short false false false false false true transfers queues argument = tt
+app_short false false false false false false true queues argument = target_short _ (words_short (without_spaces argument))
+app_short false false false false false false false true argument = fifo_short argument
+app_short false false false false false false false false argument = tt
 
 assigned_short : (assignment : Option Assignment) (argument : Text) (other : Application) →
     apps.IsShortApplication other → apps.IsShortApplication (apps.assigned_or assignment argument other)
@@ -108,7 +128,7 @@ assigned_short None argument other short = short
 
 pub application_short : (name argument : Text) → apps.IsShortApplication (application_of name argument)
 unfolding application_of
-application_short name argument = assigned_short (assignment_named name) argument _ (app_short _ _ _ _ _ _ _ argument)
+application_short name argument = assigned_short (assignment_named name) argument _ (app_short _ _ _ _ _ _ _ _ argument)
 
 -- ---- the winner that a command names
 

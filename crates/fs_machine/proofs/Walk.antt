@@ -23,7 +23,7 @@ use Rattle.fs_chan.specs.declared.chan.Chan.{Chan}
 use Rattle.fs_chan.specs.declared.peer.Direction.{Direction}
 use Rattle.fs_chan.specs.declared.target.Target3.{Target3}
 use Rattle.fs_chan.specs.declared.wait.Wait.{Wait}
-use Rattle.fs_chan.specs.declared.wait.Wait.TheVariants.{Ready, Sleep, Parked, Legs, Socket}
+use Rattle.fs_chan.specs.declared.wait.Wait.TheVariants.{Ready, Sleep, Parked, FifoIn, FifoOut, Legs, Socket}
 use Rattle.fs_chan.specs.Bridging.{exported_pairs, with_disposition}
 use Rattle.fs_chan.specs.Changes.{IsShortTarget, is_live, in_state, with_answer_place, at_rest, transferred, parked, asleep}
 use Rattle.fs_chan.specs.Changes.{may_route, routed}
@@ -47,11 +47,11 @@ use Rattle.fs_orig.specs.Verdicts.{next_group}
 use Rattle.fs_seats.proofs.HeldLemmas.{free_seat}
 use Rattle.fs_plan.specs.declared.hunt.Hunt.{Hunt}
 use Rattle.fs_plan.specs.Hunting.{hunted}
-use Rattle.fs_state.specs.Switch.{Switch, chan_at, free_slot, orig_of, without_orig}
+use Rattle.fs_state.specs.Switch.{Switch, chan_at, bridge_at, free_slot, orig_of, without_orig, with_event}
 use Rattle.fs_state.specs.Moves.{plain_event, application_event, running_at, report_event, after_move, with_changed_chan, with_running}
 use Rattle.fs_state.specs.Moves.{run_on, after_completion, its_leg_changed, after_answer_from, after_one_answer, partner_at, for_slot}
 use Rattle.fs_state.specs.Moves.{after_answer, after_report, after_destroy}
-use Rattle.fs_state.specs.Hangups.{after_hangup}
+use Rattle.fs_state.specs.Hangups.{after_hangup, lives_at}
 use Rattle.fs_machine.specs.declared.attempts.Party.TheVariants as party
 use Rattle.fs_machine.specs.declared.call.Call.{Call}
 use Rattle.fs_machine.specs.Applications.{with_assignment, after_assignment, after_sleep, state_at, after_park_in, after_effect}
@@ -78,6 +78,19 @@ use Rattle.fs_machine.proofs.StayLemmas.{variables_quiet, assignment_quiet, answ
 use Rattle.fs_machine.proofs.StayLemmas.{application_plain, moved_plain, changed_there, moved_works, changed_works, answered_works}
 use Rattle.fs_machine.proofs.StayLemmas.{hangup_dead}
 use Rattle.fs_machine.proofs.TryWalk.{verdict_kept}
+use Rattle.fs_machine.proofs.CanLemmas.{caller_lone, answerer_lone, caller_lives, answerer_lives}
+use Rattle.fs_machine.proofs.JoinLemmas.{DialsNone, CanMeet, meets_now, ready_lone}
+use Rattle.fs_machine.specs.Joining.{is_ready}
+use Rattle.fs_machine.specs.Queueing.{after_queueing, after_take, after_no_caller, after_taking_of, after_taking}
+use Rattle.fs_state.proofs.QueueLemmas.{first_waits}
+use Rattle.fs_state.specs.Queues.{queue_event, first_caller}
+use Rattle.fs_state.specs.declared.event.QueueAction.TheVariants.{Push, CallerPop}
+use Rattle.fs_state.specs.Bridging.{can_join, joined_as, after_join}
+use Rattle.fs_bridge.specs.declared.row.BridgeKind.TheVariants.{Fifo}
+use Rattle.fs_chan.specs.Queueing.{queued, awaiting_caller, turn_in}
+use Rattle.fs_chan.specs.Bridging.{awaited_in}
+use Rattle.std.specs.Prelude.{◌&&◌, is_some}
+use Rattle.std.proofs.lemmas.Bool.{false≢true}
 
 -- ---- changes of state
 
@@ -153,6 +166,12 @@ parks_stays c works = work_stays c (parked c) works (rest_links c CsPark) park_l
 sleeps_stays : {b : Stage} (now milliseconds : ℕ) (c : Chan) → IsAtWork c → Stays b c (asleep now milliseconds c)
 sleeps_stays now milliseconds c works = work_stays c (asleep now milliseconds c) works refl works.live (λ short. short) refl
 
+queues_stays : {b : Stage} (name : Text) (place : ℕ) (c : Chan) → IsAtWork c → Stays b c (queued name place c)
+queues_stays name place c works = work_stays c (queued name place c) works refl works.live (λ short. short) refl
+
+awaits_stays : {b : Stage} (name : Text) (c : Chan) → IsAtWork c → Stays b c (awaiting_caller name c)
+awaits_stays name c works = work_stays c (awaiting_caller name c) works refl works.live (λ short. short) refl
+
 transfers_stays : {b : Stage} (to : Target3) (c : Chan) → IsShortTarget to → IsAtWork c → Stays b c (transferred to c)
 transfers_stays to c short works = work_stays c (transferred to c) works refl routing_lives (sent_short to c.profile short) refl
 
@@ -161,6 +180,18 @@ pub behind_filled : (pairs : List (Text × Text)) (group : List LegPlan) → IsS
     IsSome (slice_get (all_behind pairs group) 0)
 behind_filled pairs [] some = some
 behind_filled pairs (plan ∷ plans) some = refl
+
+-- a channel that nothing holds waits for no legs
+free_dials : (wait : Wait) → hold_in wait ≡ Ready → awaited_in wait ≡ None
+free_dials (Legs orig) is = absurd (cc is)
+free_dials _ is = refl
+
+-- nor does one that waits in a queue
+queued_dials : (name : Text) (state : State) (wait : Wait) → is_some (turn_in name state wait) ≡ true → awaited_in wait ≡ None
+queued_dials name CsExecute (Legs orig) is = absurd (false≢true is)
+queued_dials name CsPark (Legs orig) is = absurd (false≢true is)
+queued_dials name _ (Legs orig) is = absurd (false≢true is)
+queued_dials name state _ is = refl
 
 -- ---- what leaves a channel what it is
 
@@ -251,6 +282,15 @@ module _ (P : Fact) (kept : KeptByTouches P) where
   parking_kept (Some CsPark) slot at h = completed_kept slot at h
   parking_kept (Some _) slot at h = work_moved parked slot at parks_stays h
 
+  queueing_kept : (name : Text) (slot : ℕ) {b : Stage} {s : Switch} → WorksAt s.channels slot → P b s → P b (after_queueing name slot s)
+  queueing_kept name slot {b} {s} at h =
+      kept.told (queue_event Push name slot) (refl, tt) (work_moved (queued name s.entries) slot at (queues_stays name s.entries) h)
+
+  no_caller_kept : (waits : Bool) (name : Text) (slot : ℕ) {b : Stage} {s : Switch} → WorksAt s.channels slot → P b s →
+      P b (after_no_caller waits name slot s)
+  no_caller_kept true name slot at h = work_moved (awaiting_caller name) slot at (awaits_stays name) h
+  no_caller_kept false name slot at h = completed_kept slot at h
+
   variable_kept : (how : Assignment) (argument : Text) (slot : ℕ) {s : Switch} → P None s →
       P None (after_move (with_assignment how argument) slot s)
   variable_kept how argument slot h =
@@ -315,6 +355,52 @@ module _ (before : Switch) (P : Fact) (kept : KeptByCalls P) (dials : KeptByDial
       by (Err fault) is = no_bridge_kept InvalidNumberFormat slot at h
       by (Ok d) is = begun d is (chan_at s slot) refl
 
+  -- ---- queues
+
+  -- a caller is taken by a channel that is at work
+  take_kept : (name : Text) (caller slot : ℕ) {s : Switch} → WorksAt s.channels slot → DialsNone s caller → P None s →
+      P (Some 0) (after_take name caller slot s)
+  take_kept name caller slot {s} at dials_none h = by (is_ready (chan_at s caller)) refl (is_ready (chan_at s slot)) refl
+    where
+      t : Switch
+      t = with_event (queue_event CallerPop name caller) s
+
+      popped : P None t
+      popped = kept.touches.told (queue_event CallerPop name caller) (refl, tt) h
+
+      meets : (seat : ℕ) → is_ready (chan_at s seat) ≡ true → lives_at t seat ≡ true → bridge_at t seat ≡ None → DialsNone s seat →
+          CanMeet t seat
+      meets seat ready live none dials_none =
+          meets_now t seat live (record { bridge = none; lone = ready_lone (chan_at s seat) ready }) dials_none
+
+      joined : is_ready (chan_at s caller) ≡ true → is_ready (chan_at s slot) ≡ true → (test : Bool) → can_join caller slot t ≡ test →
+          P (Some 0) (if test then joined_as Fifo caller slot t else t)
+      joined one two true can =
+          let none = caller_lone caller slot t can in
+          let other = answerer_lone caller slot t can in
+          let first : CanMeet t caller = meets caller one (caller_lives caller slot t can) none dials_none in
+          let second : CanMeet t slot =
+          meets slot two (answerer_lives caller slot t can) other (λ c there. free_dials c.wait (is_at_work s.channels slot c at there).free) in
+          kept.joined Fifo caller slot first.chan second.chan can first.there second.there first.lone second.lone first.free second.free
+          (record { past = t; first = popped; apart = none; drawn = refl }) (record { past = t; first = popped; apart = other; drawn = refl })
+          (dials.spent popped)
+      joined one two false can = dials.spent popped
+
+      by : (one : Bool) → is_ready (chan_at s caller) ≡ one → (two : Bool) → is_ready (chan_at s slot) ≡ two →
+          P (Some 0) (if one && two then after_join Fifo caller slot t else s)
+      by true one true two = joined one two (can_join caller slot t) refl
+      by true one false two = dials.spent h
+      by false one two is = dials.spent h
+
+  taking_kept : (waits : Bool) (name : Text) (slot : ℕ) {s : Switch} → WorksAt s.channels slot → P None s →
+      P (Some 0) (after_taking waits name slot s)
+  taking_kept waits name slot {s} at h = by (first_caller name s) refl
+    where
+      by : (found : Option ℕ) → first_caller name s ≡ found → P (Some 0) (after_taking_of found waits name slot s)
+      by None is = dials.spent (no_caller_kept P kept.touches waits name slot at h)
+      by (Some caller) is =
+          take_kept name caller slot at (λ c there. queued_dials name c.state c.wait (first_waits name s caller is c there)) h
+
   -- ---- applications
 
   effect_kept : (what : Application) (slot : ℕ) {s : Switch} → apps.IsShortApplication what → WorksAt s.channels slot → P None s →
@@ -331,6 +417,10 @@ module _ (before : Switch) (P : Fact) (kept : KeptByCalls P) (dials : KeptByDial
   effect_kept (app.Transfer to) slot short at h =
       dials.spent (work_moved P kept.touches (transferred to) slot at (λ c works. transfers_stays to c short works) h)
   effect_kept (app.Bridge dial) slot short at h = dialing_kept dial slot at h
+  effect_kept (app.FifoIn name) slot {s} short at h =
+      dials.spent (queueing_kept P kept.touches name slot (answered_works slot s at) (answered_kept P kept.touches slot h))
+  effect_kept (app.FifoOut name waits) slot {s} short at h =
+      taking_kept waits name slot (answered_works slot s at) (answered_kept P kept.touches slot h)
   effect_kept app.Unknown slot short at h = hung_up_kept DestinationOutOfOrder slot h
 
   executed_kept : (application : Text) (argument : Option Text) (slot : ℕ) {s : Switch} → WorksAt s.channels slot → P None s →
@@ -446,6 +536,8 @@ module _ (before : Switch) (P : Fact) (kept : KeptByCalls P) (dials : KeptByDial
       dials.spent (completed_kept P kept.touches slot (works slot c there live (ap hold_in is) busy) h)
   waiting_kept Parked slot c there is live busy h = ran_kept slot (works slot c there live (ap hold_in is) busy) h
   waiting_kept (Socket conn) slot c there is live busy h = ran_kept slot (works slot c there live (ap hold_in is) busy) h
+  waiting_kept (FifoOut name) slot c there is live busy h =
+      taking_kept true name slot (works slot c there live (ap hold_in is) busy) h
   waiting_kept (Legs orig) slot c there is live busy h = tried_kept slot orig c there h
   waiting_kept _ slot c there is live busy h = dials.spent h
 

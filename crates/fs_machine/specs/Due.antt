@@ -1,10 +1,12 @@
 -- When channels and jobs have something to do by themselves.
 use Rattle.std.specs.Prelude.{ℕ, Bool, true, false, if◌then◌else◌, Option, None, Some}
 use Rattle.std.specs.Option.{option_and_then}
+use Rattle.fs_text.specs.Texts.{Text}
 use Rattle.fs_chan.specs.declared.chan.Chan.{Chan}
 use Rattle.fs_chan.specs.declared.due.Due.{Due}
 use Rattle.fs_chan.specs.declared.due.Due.TheVariants.{Now, At}
 use Rattle.fs_chan.specs.Bridging.{awaited_by}
+use Rattle.fs_chan.specs.Queueing.{wanted_by}
 use Rattle.fs_chan.specs.Work.{due_of, due_at}
 use Rattle.fs_orig.specs.declared.orig.Orig.{Orig}
 use Rattle.fs_orig.specs.Verdicts as verdicts
@@ -14,6 +16,7 @@ use Rattle.fs_seats.specs.Least.{lesser, least_of}
 use Rattle.fs_state.specs.declared.job.Job.{Job}
 use Rattle.fs_state.specs.declared.job.JobWork.{JobWork}
 use Rattle.fs_state.specs.declared.job.JobWork.TheVariants.{Run, Sleep, Originate}
+use Rattle.fs_state.specs.Queues.{has_caller}
 use Rattle.fs_state.specs.Switch.{Switch, chan_at, orig_of, job_of, at_moment}
 use Rattle.fs_machine.specs.declared.due.DueActor.{DueActor}
 use Rattle.fs_machine.specs.declared.due.DueActor.TheVariants as actor
@@ -25,9 +28,18 @@ abbrev pub orig_due : ℕ → Option Orig → Option Due
 orig_due now None = None
 orig_due now (Some o) = Some (due_at now (verdicts.due_moment_of now o))
 
+-- a channel that waits for a caller has something to do where its queue has one
+abbrev pub caller_due : Switch → Text → Option Due
+caller_due s name = if has_caller name s then Some Now else None
+
+-- so has one that waits for none by itself
+abbrev pub due_wanting : Switch → Chan → Option Text → Option Due
+due_wanting s c None = due_of s.moment c
+due_wanting s c (Some name) = caller_due s name
+
 -- a channel that waits for the legs that it dialed has something to do by the verdict on them
 abbrev pub due_by : Switch → Chan → Option ℕ → Option Due
-due_by s c None = due_of s.moment c
+due_by s c None = due_wanting s c (wanted_by c)
 due_by s c (Some orig) = orig_due s.moment (orig_of s orig)
 
 -- what stands in a slot, if it is a channel

@@ -14,6 +14,7 @@ use Rattle.fs_state.specs.Switch.{Switch, chan_at, bridge_at, slot_named}
 use Rattle.fs_state.specs.Moves.{with_changed_chan, orig_given_up, after_move}
 use Rattle.fs_state.specs.Hangups.{legs_at, lives_at, after_hangups_for}
 use Rattle.fs_state.specs.Bridging.{after_join}
+use Rattle.fs_state.specs.Queues.{abort_told_of, queue_at}
 use Rattle.fs_machine.specs.Done.{Done, says}
 use Rattle.fs_machine.specs.Texts.{no_channel, same_channel, not_ready, not_answered, already_bridged, made_text}
 
@@ -54,6 +55,15 @@ after_leaving slot s = with_changed_chan at_leisure slot (orig_given_up slot (op
 abbrev pub both_left : ℕ → ℕ → Switch → Switch
 both_left a b s = after_leaving b (after_leaving a (after_hangups_for OriginatorCancel (legs_at s a ++ legs_at s b) s))
 
+-- the channel in a slot has left the queue in which it waited before, and tells so, unless it died of its leaving
+abbrev pub queue_left : Switch → ℕ → Switch → Switch
+queue_left before slot s = if lives_at s slot then abort_told_of slot (queue_at before slot) s else s
+
+-- so have two, in the order of their slots
+abbrev pub both_queues_left : Switch → ℕ → ℕ → Switch → Switch
+both_queues_left before a b s =
+    if nat_lt a b then queue_left before b (queue_left before a s) else queue_left before a (queue_left before b s)
+
 -- ---- joining
 
 -- two channels come into the media of their bridge, in the order of their slots
@@ -70,7 +80,7 @@ joined_done a b other s =
 -- two channels are joined, unless something stands in the way
 abbrev pub bridged_unless : Option Text → ℕ → ℕ → Text → Switch → Done
 bridged_unless (Some reply) a b other s = says reply s
-bridged_unless None a b other s = joined_done a b other (both_left a b s)
+bridged_unless None a b other s = joined_done a b other (both_queues_left s a b (both_left a b s))
 
 -- those in two slots, if there are such
 abbrev pub bridge_done_at : Option ℕ → Option ℕ → Text → Switch → Done

@@ -1,5 +1,5 @@
 -- What a channel does by itself, state by state.
-use Rattle.std.specs.Prelude.{ℕ, ◌==◌, Bool, [], List, length, Ok, Err, codes, if◌then◌else◌, Option, None, Some}
+use Rattle.std.specs.Prelude.{ℕ, ◌==◌, Bool, true, [], List, length, Ok, Err, codes, if◌then◌else◌, Option, None, Some}
 use Rattle.std.specs.Str.{bytes_eq}
 use Rattle.fs_text.specs.declared.states.State.{State}
 use Rattle.fs_text.specs.declared.states.State.TheVariants.{CsNew, CsInit, CsRouting, CsExecute, CsPark, CsConsumeMedia, CsHangup}
@@ -12,7 +12,7 @@ use Rattle.fs_chan.specs.declared.chan.Chan.{Chan}
 use Rattle.fs_chan.specs.declared.peer.Direction.{Direction}
 use Rattle.fs_chan.specs.declared.peer.Direction.TheVariants.{Inbound, Outbound}
 use Rattle.fs_chan.specs.declared.wait.Wait.{Wait}
-use Rattle.fs_chan.specs.declared.wait.Wait.TheVariants.{Ready, Sleep, Parked, Legs, Socket}
+use Rattle.fs_chan.specs.declared.wait.Wait.TheVariants.{Ready, Sleep, Parked, FifoOut, Legs, Socket}
 use Rattle.fs_chan.specs.Changes.{in_state, may_route, routed}
 use Rattle.fs_plan.specs.declared.hunt.Hunt.{Hunt}
 use Rattle.fs_plan.specs.Outcomes.{Outcome}
@@ -23,6 +23,7 @@ use Rattle.fs_state.specs.Moves.{after_move, after_begin, after_completion, afte
 use Rattle.fs_machine.specs.declared.attempts.Party.TheVariants as party
 use Rattle.fs_machine.specs.Attempts.{after_verdict_on}
 use Rattle.fs_machine.specs.Applications.{after_running}
+use Rattle.fs_machine.specs.Queueing.{after_taking}
 
 -- ---- routing
 
@@ -82,12 +83,14 @@ abbrev pub first_state : Direction → State
 first_state Inbound = CsRouting
 first_state Outbound = CsConsumeMedia
 
--- what a channel waits for is over, or it runs what is next; one that dialed does what the verdict on the legs says
+-- what a channel waits for is over, or it runs what is next; one that dialed does what the verdict on the legs says, and one that waits for
+-- a caller takes it
 abbrev pub after_wait : Wait → ℕ → Switch → Switch
 after_wait Ready slot s = after_running slot s
 after_wait (Sleep until) slot s = after_completion slot s
 after_wait Parked slot s = after_running slot s
 after_wait (Socket conn) slot s = after_running slot s
+after_wait (FifoOut name) slot s = after_taking true name slot s
 after_wait (Legs orig) slot s = after_verdict_on (record { orig = orig; party = party.Slot slot }) s
 after_wait _ slot s = s
 

@@ -11,6 +11,7 @@ ghost use Rattle.fs_machine.specs.Applications as spec;
 
 use crate::channels::{ChanChange, change_chan};
 use crate::dialing::dial_bridge;
+use crate::queueing::{answer_queue, enter_queue};
 use fs_app::Application;
 use fs_chan::{Action, Assignment, Chan};
 use fs_state::Draft;
@@ -114,6 +115,8 @@ fn apply_effect(draft: &mut Draft<'_>, slot: u16, asked: &Application) -> Result
         Application::Bridge { dial } => dial_bridge(draft, slot, dial),
         Application::Park => park(draft, slot),
         Application::Transfer { to } => draft.transfer(slot, to.copy()?),
+        Application::FifoIn { name } => enter_queue(draft, slot, name),
+        Application::FifoOut { name, waits } => answer_queue(draft, slot, name, *waits),
         Application::Unknown => draft.hang_up(slot, Cause::DestinationOutOfOrder),
     }
 }

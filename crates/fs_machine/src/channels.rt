@@ -26,6 +26,10 @@ pub(crate) enum ChanChange<'a> {
     Sleep { now: u64, milliseconds: u64 },
     /// It waits for the verdict on the origination of this number, which it owns.
     AwaitLegs { orig: u64 },
+    /// It waits in the queue of a name, and came by the entry at a place.
+    Queue { name: &'a Txt, place: u64 },
+    /// It waits for a caller in the queue of a name.
+    AwaitCaller { name: &'a Txt },
     /// It is a leg that has won, and no leg any more: it is in the media of its bridge.
     EnterMedia,
     /// It is a leg that has won, and no leg any more: it has one thing to run, or is to be routed.
@@ -56,6 +60,8 @@ fn change_by(alloc: Global, chan: &mut Chan, change: ChanChange<'_>) -> Result<(
         ChanChange::Assign { how, argument } => chan.vars.assign(how, argument.as_bytes())?,
         ChanChange::Sleep { now, milliseconds } => chan.sleep(now, milliseconds),
         ChanChange::AwaitLegs { orig } => chan.await_legs(orig),
+        ChanChange::Queue { name, place } => chan.queue(name.copy()?, place),
+        ChanChange::AwaitCaller { name } => chan.await_caller(name.copy()?),
         ChanChange::EnterMedia => chan.enter_media(),
         ChanChange::Win { winner } => win_by(alloc, chan, winner)?,
     }

@@ -11,6 +11,7 @@ ghost use Rattle.fs_machine.specs.Due as spec;
 use fs_chan::Due;
 use fs_seats::Numbered;
 use fs_state::{Job, JobWork, Seen};
+use fs_text::Txt;
 
 /// Who has something to do by itself.
 #[derive(Clone, Copy, Debug, PartialEq, Eq)]
@@ -32,9 +33,21 @@ pub(crate) fn slot_due(seen: &Seen<'_>, slot: u16) -> Option<Due>
     ensures { result ≡ spec.slot_due slot seen.now }
 {
     let chan = seen.chan(slot)?;
-    match chan.awaited() {
-        Some(orig) => orig_due(seen, orig),
-        None => chan.due(seen.moment()),
+    match (chan.awaited(), chan.wanted_queue()) {
+        (Some(orig), _) => orig_due(seen, orig),
+        (None, Some(name)) => caller_due(seen, name),
+        (None, None) => chan.due(seen.moment()),
+    }
+}
+
+// When a channel has something to do that waits for a caller in the queue of a name.
+fn caller_due(seen: &Seen<'_>, name: &Txt) -> Option<Due>
+    ensures { result ≡ spec.caller_due seen.now name.now }
+{
+    if seen.has_caller(name.as_bytes()) {
+        Some(Due::Now)
+    } else {
+        None
     }
 }
 

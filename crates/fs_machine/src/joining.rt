@@ -1,9 +1,10 @@
 //! How a command joins two channels.
 
-ghost use Rattle.std.specs.Prelude.{◌≡◌, ◌++◌, None, Some, IfOk};
+ghost use Rattle.std.specs.Prelude.{◌≡◌, ◌++◌, if◌then◌else◌, None, Some, IfOk};
 ghost use Rattle.std.specs.Option.{option_copied};
 ghost use Rattle.fs_state.specs.Drafts.{drafted, Brings};
-ghost use Rattle.fs_state.specs.Hangups.{legs_at};
+ghost use Rattle.fs_state.specs.Hangups.{legs_at, lives_at};
+ghost use Rattle.fs_state.specs.Queues.{abort_told_of};
 ghost use Rattle.fs_state.specs.Moves.{with_changed_chan};
 ghost use Rattle.fs_state.specs.Switch.{chan_at};
 ghost use Rattle.fs_chan.specs.Bridging.{at_leisure};
@@ -15,7 +16,7 @@ use crate::channels::awaited_at;
 use crate::hangups::hang_up_for;
 use crate::texts::{made_text, says};
 use fs_bridge::BridgeKind;
-use fs_state::Draft;
+use fs_state::{Draft, QueueAction};
 use fs_text::{Cause, Memory, State, Txt};
 use std::alloc::Global;
 
@@ -73,7 +74,7 @@ fn bridge_slots(draft: &mut Draft<'_>, a: u16, b: u16, other: &Txt) -> Result<Op
     match in_the_way(draft, a, b) {
         Some(reply) => says(draft.alloc(), reply),
         None => {
-            leave_both(draft, a, b)?;
+            leave_all(draft, a, b)?;
             join_both(draft, a, b, other)
         }
     }
@@ -125,6 +126,39 @@ fn is_answered(draft: &Draft<'_>, slot: u16) -> bool
 }
 
 // ---- leaving
+
+// Lets two channels leave what they were in, and tell of the queues in which they waited.
+fn leave_all(draft: &mut Draft<'_>, a: u16, b: u16) -> Result<(), Memory>
+    ensures { Brings result draft.old draft.new
+        (spec.both_queues_left (drafted draft.old) a b (spec.both_left a b (drafted draft.old))) }
+{
+    let one = draft.queue_at(a)?;
+    let two = draft.queue_at(b)?;
+    leave_both(draft, a, b)?;
+    if a < b {
+        tell_queue_left(draft, a, one)?;
+        tell_queue_left(draft, b, two)
+    } else {
+        tell_queue_left(draft, b, two)?;
+        tell_queue_left(draft, a, one)
+    }
+}
+
+/// The channel in a slot has left the queue in which it waited before, and tells so, unless it died of its leaving.
+pub(crate) fn tell_queue_left(
+    draft: &mut Draft<'_>,
+    slot: u16,
+    queue: Option<Txt>,
+) -> Result<(), Memory>
+    ensures { Brings result draft.old draft.new
+        (if lives_at (drafted draft.old) slot then abort_told_of slot queue (drafted draft.old)
+        else drafted draft.old) }
+{
+    match queue {
+        Some(name) if draft.lives(slot) => draft.tell_queue(slot, name, QueueAction::Abort),
+        _ => Ok(()),
+    }
+}
 
 // Lets two channels leave what they were in; the legs that they dialed are hung up first.
 fn leave_both(draft: &mut Draft<'_>, a: u16, b: u16) -> Result<(), Memory>

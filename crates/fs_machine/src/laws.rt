@@ -1,10 +1,14 @@
 //! What holds of every run. These functions do nothing: each stands for its contract.
 
-ghost use Rattle.std.specs.Prelude.{◌≡◌, ◌≢◌, ℕ, true, false, List, [], ◌∷◌, ◌++◌, None, Some, is_some};
+ghost use Rattle.std.specs.Prelude.{◌≡◌, ◌≢◌, ℕ, true, false, if◌then◌else◌, List, [], ◌∷◌, ◌++◌, None, Some, is_some};
 ghost use Rattle.fs_text.specs.Texts.{Text};
+ghost use Rattle.fs_chan.specs.declared.chan.Chan.{Chan};
+ghost use Rattle.fs_chan.specs.declared.due.Due.TheVariants.{Now};
+ghost use Rattle.fs_chan.specs.Queueing.{wanted_by};
 ghost use Rattle.fs_doc.specs.Limits.{IsWithin};
 ghost use Rattle.fs_doc.specs.Reading.{Configuration};
-ghost use Rattle.fs_state.specs.Switch.{chan_at, waiting_for, at_moment};
+ghost use Rattle.fs_state.specs.Queues.{has_caller};
+ghost use Rattle.fs_state.specs.Switch.{Switch, chan_at, waiting_for, at_moment};
 ghost use Rattle.fs_machine.specs.declared.due.DueActor.TheVariants as actor;
 ghost use Rattle.fs_machine.specs.declared.entry.Entry.{Entry};
 ghost use Rattle.fs_machine.specs.declared.entry.Act.TheVariants.{Arrive};
@@ -12,7 +16,7 @@ ghost use Rattle.fs_machine.specs.declared.reply.Reply.{Reply};
 ghost use Rattle.fs_machine.specs.declared.reply.Reply.TheVariants as reply;
 ghost use Rattle.fs_machine.specs.BridgeEvents.{BridgesAreTold, EndsStandBehind, BridgesAreCounted, events_in};
 ghost use Rattle.fs_machine.specs.Connections.{phase_at};
-ghost use Rattle.fs_machine.specs.Due.{next_due};
+ghost use Rattle.fs_machine.specs.Due.{next_due, slot_due};
 ghost use Rattle.fs_machine.specs.EventNames.{AreNamed};
 ghost use Rattle.fs_machine.specs.Events.{events_by};
 ghost use Rattle.fs_machine.specs.FirstEnds.{EndsAreRecorded};
@@ -148,4 +152,11 @@ pub fn carries_each_connection()
     ensures does { (conn : ℕ) (config : Configuration) (before : List Entry) (entry : Entry) (reply : Reply)
         → Answers config before entry reply → HasCome conn (state_after config before) → names entry ≡ Some conn
         → Does conn config before entry }
+{}
+
+/// A channel that waits for a caller of a queue has something to do at once where somebody waits there, and nothing by
+/// itself where nobody does. So no channel that waits is passed over.
+pub fn takers_are_due()
+    ensures { (s : Switch) (slot : ℕ) (c : Chan) (name : Text) → chan_at s slot ≡ Some c → wanted_by c ≡ Some name
+        → slot_due slot s ≡ (if has_caller name s then Some Now else None) }
 {}

@@ -5,7 +5,7 @@ ghost use Rattle.fs_state.specs.Drafts.{drafted, Brings};
 ghost use Rattle.fs_machine.specs.Done.{ComesTo};
 ghost use Rattle.fs_machine.specs.Leaving as spec;
 
-use crate::joining::{is_ready, leave, no_channel};
+use crate::joining::{is_ready, leave, no_channel, tell_queue_left};
 use crate::texts::says;
 use fs_chan::Target3;
 use fs_state::Draft;
@@ -55,7 +55,7 @@ fn send_found(
     if !is_ready(draft, slot) {
         return says(alloc, b"-ERR Channel not ready!\n");
     }
-    depart(draft, slot)?;
+    bid_farewell(draft, slot)?;
     arrive(draft, slot, onward)?;
     says(alloc, b"+OK\n")
 }
@@ -73,6 +73,15 @@ fn arrive(draft: &mut Draft<'_>, slot: u16, onward: Onward) -> Result<(), Memory
         Onward::Park => draft.park(slot),
         Onward::Transfer(to) => draft.transfer(slot, to),
     }
+}
+
+// Lets the channel in a slot leave all that it is in, and tell of the queue in which it waited.
+fn bid_farewell(draft: &mut Draft<'_>, slot: u16) -> Result<(), Memory>
+    ensures { Brings result draft.old draft.new (spec.after_farewell slot (drafted draft.old)) }
+{
+    let queue = draft.queue_at(slot)?;
+    depart(draft, slot)?;
+    tell_queue_left(draft, slot, queue)
 }
 
 // Lets the channel in a slot leave its bridge and the legs that it dialed; it runs and waits for nothing.

@@ -27,6 +27,7 @@ mod messages;
 mod originations;
 mod owing;
 mod questions;
+mod queueing;
 mod refusal;
 mod refused;
 mod replies;
@@ -47,7 +48,7 @@ pub use laws::{
     arrivals_are_numbered, bridges_are_counted, bridges_are_told, carries_each_connection,
     concerns_each_connection, ends_are_recorded, events_are_named, hands_out_what_it_gives,
     identifiers_differ, owes_to_its_jobs, partners_agree, runs_are_sound, stays_stopped,
-    winners_can_join,
+    takers_are_due, winners_can_join,
 };
 pub use machine::{Change, Machine};
 pub use refusal::Refusal;

@@ -11,6 +11,7 @@ ghost use Rattle.fs_machine.specs.Work as spec;
 
 use crate::applications::run_next;
 use crate::attempts::{Attempt, Party, judge_attempt};
+use crate::queueing::take_caller;
 use fs_chan::{Actions, Chan, Direction, Wait};
 use fs_plan::{Dialplan, Hunt};
 use fs_ports::NoGate;
@@ -38,6 +39,10 @@ pub(crate) fn work(draft: &mut Draft<'_>, dialplan: &Dialplan, slot: u16) -> Res
         (State::CsExecute | State::CsPark, Wait::Sleep { .. }) => draft.complete(slot),
         (State::CsExecute | State::CsPark, Wait::Ready | Wait::Parked | Wait::Socket { .. }) =>
             run_next(draft, slot),
+        (State::CsExecute | State::CsPark, Wait::FifoOut { name }) => {
+            let name = name.copy()?;
+            take_caller(draft, slot, &name, true)
+        }
         (State::CsExecute | State::CsPark, Wait::Legs { orig }) => {
             let orig = *orig;
             judge_dialed(draft, slot, orig)

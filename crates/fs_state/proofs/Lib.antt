@@ -7,4 +7,6 @@ pub mod LegTables
 pub mod GiftLemmas
 pub mod HangupLemmas
 pub mod PostLemmas
+pub mod QueueLemmas
+pub mod QueueOrder
 pub mod EndLemmas

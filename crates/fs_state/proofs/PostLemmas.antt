@@ -26,7 +26,7 @@ use Rattle.fs_state.specs.declared.post.Post.{Post}
 use Rattle.fs_state.specs.Frames.{Frames}
 use Rattle.fs_state.specs.Losses.{Losses}
 use Rattle.fs_state.specs.Switch.{Switch}
-use Rattle.fs_state.specs.Posting.{telling_of, tellings_from, tellings, wanted_by, posts_of, wanted_of, posts_at, posts_from, with_loss_of}
+use Rattle.fs_state.specs.Posting.{subclass_in, telling_of, tellings_from, tellings, wanted_by, posts_of, wanted_of, posts_at, posts_from, with_loss_of}
 use Rattle.fs_state.specs.Posting.{losses_from, posts, losses_after, with_posts, wants_at, is_wanted, hears_at, is_heard, AreDeaf, told_of}
 use Rattle.fs_state.specs.Posting.{told, post_of, posts_told, is_taken, frames_at, room_for, frames_within, gifts_of, with_post, with_lost}
 use Rattle.fs_state.specs.Posting.{left_for, posted_to, posted_at, posted_over}
@@ -80,7 +80,7 @@ any_seat telling (held ∷ conns) k = by (wants_at telling held) (any_seat telli
     by false rest = rest
 
 -- an event that nobody hears is not told
-pub untold_unheard : (before s : Switch) (number : ℕ) (event : Event) → is_heard before.conns event.name [] ≡ false →
+pub untold_unheard : (before s : Switch) (number : ℕ) (event : Event) → is_heard before.conns event.name (subclass_in event.detail) ≡ false →
     told_of before s number event ≡ None
 unfolding telling_of
 untold_unheard before s number event none =

@@ -20,6 +20,7 @@ use Rattle.fs_orig.specs.Legs.{living_slots}
 use Rattle.fs_state.specs.declared.event.Event.{Event}
 use Rattle.fs_state.specs.declared.event.Detail.TheVariants.{Unbridge}
 use Rattle.fs_state.specs.Switch.{Switch, chan_at, bridge_at, orig_of, without_bridge, with_event}
+use Rattle.fs_state.specs.Queues.{abort_told}
 use Rattle.fs_state.specs.Moves.{partner_at, with_changed_chan, after_move, after_completion, after_one_hangup}
 
 -- ---- what a hangup asks of a switch
@@ -104,9 +105,10 @@ with_end_told (Some e) s = with_event (unbridge_event e) s
 abbrev pub untold_by : ℕ → List Ended → List Ended
 untold_by slot ended = filter (λ e. not (is_leg_of slot e)) ended
 
--- a channel is hung up; before that it tells the end of its bridge, if none before it has
+-- a channel is hung up; before that it tells that it leaves its queue, if it waits in one, and the end of its bridge, if none before it
+-- has
 abbrev pub after_member : List Ended → Member → Switch → Switch
-after_member untold m s = after_one_hangup m.1 m.0 (with_end_told (find (is_leg_of m.0) untold) s)
+after_member untold m s = after_one_hangup m.1 m.0 (with_end_told (find (is_leg_of m.0) untold) (abort_told m.0 s))
 
 -- channels are hung up, one after another; the ends of these bridges are still to be told
 abbrev pub after_members : List Ended → Members → Switch → Switch

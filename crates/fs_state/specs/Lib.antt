@@ -6,6 +6,8 @@ pub mod Outboxes
 pub mod Switch
 pub mod Drafts
 pub mod Ending
+pub mod Queues
+pub mod QueueLaws
 pub mod Moves
 pub mod Hangups
 pub mod Leaving

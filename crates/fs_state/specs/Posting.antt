@@ -29,6 +29,8 @@ use Rattle.fs_state.specs.declared.conn.Conn.{Conn}
 use Rattle.fs_state.specs.declared.event.Event.{Event}
 use Rattle.fs_state.specs.declared.event.Detail.{Detail}
 use Rattle.fs_state.specs.declared.event.Detail.TheVariants as detail
+use Rattle.fs_state.specs.declared.event.QueueAction.{QueueAction}
+use Rattle.fs_state.specs.declared.event.QueueAction.TheVariants as action
 use Rattle.fs_state.specs.declared.gift.Gift.{Gift}
 use Rattle.fs_state.specs.declared.job.Background.{Background}
 use Rattle.fs_state.specs.declared.outgoing.Outgoing.TheVariants as outgoing
@@ -76,14 +78,30 @@ abbrev pub uuid_of : Option Chan → Text
 uuid_of None = []
 uuid_of (Some c) = c.uuid
 
--- the headers of all events: the name, the switch, the number of the event, and the moment
-abbrev pub first_headers : Switch → ℕ → EventName → Pairs
-first_headers s number name =
-    (codes "Event-Name", event_name name)
-    ∷ (codes "Core-UUID", core_id.uuid s.settings.core_uuid 0)
+-- the subclass of what is told of queues
+unfoldable pub fifo_subclass : Text
+fifo_subclass = codes "fifo::info"
+
+-- the subclass of an event, where it has one
+abbrev pub subclass_in : Detail → Text
+subclass_in (detail.Queue name action) = fifo_subclass
+subclass_in _ = []
+
+-- which event it is: its name, and its subclass where it has one
+abbrev pub name_headers : EventName → Text → Pairs
+name_headers name subclass = (codes "Event-Name", event_name name) ∷ with_values ((codes "Event-Subclass", subclass) ∷ [])
+
+-- the switch, the number of the event, and the moment
+abbrev pub switch_headers : Switch → ℕ → Pairs
+switch_headers s number =
+    (codes "Core-UUID", core_id.uuid s.settings.core_uuid 0)
     ∷ (codes "Event-Sequence", decimal number)
     ∷ (codes "Event-Date-Timestamp", decimal s.moment)
     ∷ []
+
+-- the headers of all events
+abbrev pub first_headers : Switch → ℕ → EventName → Text → Pairs
+first_headers s number name subclass = name_headers name subclass ++ switch_headers s number
 
 -- the application, and the first bytes of its argument
 abbrev pub application_headers : Action → Pairs
@@ -128,6 +146,16 @@ job_headers job =
 abbrev pub shutdown_headers : Pairs
 shutdown_headers = (codes "Event-Info", codes "System Shutting Down") ∷ []
 
+-- what happens to a caller in a queue, as it is told
+unfoldable pub action_name : QueueAction → Text
+action_name action.Push = codes "push"
+action_name action.CallerPop = codes "caller_pop"
+action_name action.Abort = codes "abort"
+
+-- the queue, and what happened there
+abbrev pub queue_headers : Text → QueueAction → Pairs
+queue_headers name action = (codes "FIFO-Name", name) ∷ (codes "FIFO-Action", action_name action) ∷ []
+
 -- what an event tells beside its channel
 abbrev pub detail_headers : Switch → Switch → Option ℕ → Detail → Pairs
 detail_headers before s subject detail.Plain = []
@@ -138,6 +166,7 @@ detail_headers before s subject (detail.Hangup cause) = cause_header cause
 detail_headers before s subject detail.Report = report_headers (subject_told before s subject)
 detail_headers before s subject (detail.Job job answer) = job_headers job
 detail_headers before s subject detail.Shutdown = shutdown_headers
+detail_headers before s subject (detail.Queue name action) = queue_headers name action
 
 -- what stands behind the headers of an event: the answer of a job
 abbrev pub body_in : Detail → Text
@@ -147,13 +176,13 @@ body_in _ = []
 -- all headers of an event, where it has this number
 unfoldable pub headers_of : Switch → Switch → ℕ → Event → Pairs
 headers_of before s number event =
-    first_headers s number event.name ++ headers_of_chan (subject_told before s event.subject)
+    first_headers s number event.name (subclass_in event.detail) ++ headers_of_chan (subject_told before s event.subject)
     ++ with_values (detail_headers before s event.subject event.detail)
 
 -- all that an event tells, where it has this number
 unfoldable pub telling_of : Switch → Switch → ℕ → Event → Telling
 telling_of before s number event =
-    record { name = event.name; subclass = []; headers = headers_of before s number event; body = body_in event.detail }
+    record { name = event.name; subclass = subclass_in event.detail; headers = headers_of before s number event; body = body_in event.detail }
 
 -- all that events tell, the first of which has this number; the number stands still at 2^64 - 1
 abbrev pub tellings_from : Switch → Switch → ℕ → List Event → List Telling

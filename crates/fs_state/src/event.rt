@@ -47,12 +47,52 @@ pub enum Detail {
     Job(Background, Txt),
     /// That the switch comes to its end.
     Shutdown,
+    /// What happened to the channel in the queue of this name.
+    Queue(Txt, QueueAction),
+}
+
+/// What happens to a caller in a queue.
+#[derive(Clone, Copy, Debug, PartialEq, Eq)]
+pub enum QueueAction {
+    /// It comes to wait there.
+    Push,
+    /// It is taken.
+    CallerPop,
+    /// It leaves before it is taken.
+    Abort,
+}
+
+impl QueueAction {
+    ghost use Rattle.fs_state.specs.Posting.{action_name};
+
+    /// Its name, as mod_fifo tells it.
+    #[tactic(auto, unfolding(crate::specs::Posting::action_name))]
+    pub fn name(self) -> &'static [u8]
+        ensures { result.now ≡ action_name self }
+    {
+        match self {
+            QueueAction::Push => b"push",
+            QueueAction::CallerPop => b"caller_pop",
+            QueueAction::Abort => b"abort",
+        }
+    }
 }
 
 impl Detail {
     ghost use Rattle.std.specs.Prelude.{Option};
     ghost use Rattle.fs_state.specs.Counts.{hangup_in};
-    ghost use Rattle.fs_state.specs.Posting.{body_in};
+    ghost use Rattle.fs_state.specs.Posting.{body_in, subclass_in};
+
+    /// Its subclass, which only a `CUSTOM` event has: that of queues, or nothing.
+    #[tactic(auto, unfolding(crate::specs::Posting::fifo_subclass))]
+    pub fn subclass(&self) -> &'static [u8]
+        ensures { result.now ≡ subclass_in self.now }
+    {
+        match self {
+            Detail::Queue(..) => b"fifo::info",
+            _ => &[],
+        }
+    }
 
     /// The text that stands behind the headers: the answer of a job, or nothing.
     pub fn body(&self) -> &[u8]

@@ -120,7 +120,8 @@ impl<'a> Draft<'a> {
         Ok(())
     }
 
-    /// A channel is hung up; before that it tells the end of its bridge, where that is still to be told.
+    /// A channel is hung up; before that it tells that it leaves its queue, if it waits in one, and the end of its
+    /// bridge, where that is still to be told.
     fn hang_up_member(
         &mut self,
         untold: &[(Row, Cause)],
@@ -128,6 +129,7 @@ impl<'a> Draft<'a> {
     ) -> Result<(), Memory>
         ensures { Brings result self.old self.new (spec.after_member untold.now member (drafted self.old)) }
     {
+        self.tell_abort(member.0)?;
         self.tell_end(first_end(untold, member.0))?;
         self.hang_one(member.0, member.1)
     }

@@ -97,7 +97,7 @@ impl<'a> Draft<'a> {
             (λ post. post ≡ option_map (spec.post_of (take seats self.now.base.conns))
             (spec.told_of self.now.base (drafted self.now) number event.now)) }
     {
-        if !self.core.hears(event.name, b"") {
+        if !self.core.hears(event.name, event.detail.subclass()) {
             return Ok(None);
         }
         let takers = self.takers(seats, number, event)?;
@@ -145,7 +145,7 @@ impl<'a> Draft<'a> {
             return Ok(false);
         };
         let subs = &row.held.subs;
-        if !subs.hears(event.name, b"") {
+        if !subs.hears(event.name, event.detail.subclass()) {
             return Ok(false);
         }
         self.is_let_through(subs, number, event)

@@ -6,12 +6,12 @@ ghost use Rattle.fs_state.specs.Drafts.{drafted};
 ghost use Rattle.fs_state.specs.Posting as spec;
 
 use crate::draft::Draft;
-use crate::event::{Detail, Event};
+use crate::event::{Detail, Event, QueueAction};
 use crate::job::Background;
 use fs_bridge::Row;
 use fs_chan::{Action, Chan};
 use fs_text::{
-    Cause, EventName, HeaderSink, Memory, State, cut_word, give, give_variable, without_spaces,
+    Cause, EventName, HeaderSink, Memory, State, Txt, cut_word, give, give_variable, without_spaces,
 };
 use fs_vars::Vars;
 use itoa::Buffer;
@@ -33,26 +33,21 @@ impl<'a> Draft<'a> {
         ensures { OnOk result (sink.new
             ≡ taking S.taken (spec.headers_of self.now.base (drafted self.now) number event.now) sink.old) }
     {
-        self.tell_first(sink, number, event.name)?;
+        tell_name(sink, event.name, event.detail.subclass())?;
+        self.tell_switch(sink, number)?;
         self.tell_subject(sink, event.subject)?;
         self.tell_detail(sink, event)
     }
 
-    /// Tells what all events tell.
-    fn tell_first<S: HeaderSink>(
-        &self,
-        sink: &mut S,
-        number: u64,
-        name: EventName,
-    ) -> Result<(), Memory>
+    /// Tells the switch, the number of the event, and the moment.
+    fn tell_switch<S: HeaderSink>(&self, sink: &mut S, number: u64) -> Result<(), Memory>
         ensures { OnOk result (sink.new
-            ≡ taking S.taken (spec.first_headers (drafted self.now) number name) sink.old) }
+            ≡ taking S.taken (spec.switch_headers (drafted self.now) number) sink.old) }
     {
         let mut uuid = [0; UUID_LEN];
         let core = self.settings().core_uuid.uuid_in(0, &mut uuid);
         let mut sequence = Buffer::new();
         let mut moment = Buffer::new();
-        sink.put(b"Event-Name", name.name().as_bytes())?;
         sink.put(b"Core-UUID", core.as_bytes())?;
         sink.put(b"Event-Sequence", sequence.format(number).as_bytes())?;
         sink.put(
@@ -124,6 +119,7 @@ impl<'a> Draft<'a> {
             Detail::Report => self.tell_report(sink, event.subject),
             Detail::Job(job, _) => tell_job(sink, job),
             Detail::Shutdown => tell_shutdown(sink),
+            Detail::Queue(name, action) => tell_queue(sink, name, *action),
         }
     }
 
@@ -162,6 +158,15 @@ impl<'a> Draft<'a> {
         }
         tell_variables(sink, &chan.vars)
     }
+}
+
+/// Tells which event it is: its name, and its subclass where it has one.
+fn tell_name<S: HeaderSink>(sink: &mut S, name: EventName, subclass: &[u8]) -> Result<(), Memory>
+    ensures { OnOk result (sink.new
+        ≡ taking S.taken (spec.name_headers name subclass.now) sink.old) }
+{
+    sink.put(b"Event-Name", name.name().as_bytes())?;
+    give(sink, "Event-Subclass", subclass)
 }
 
 /// Tells an application, and the first bytes of its argument.
@@ -204,6 +209,15 @@ fn tell_shutdown<S: HeaderSink>(sink: &mut S) -> Result<(), Memory>
     ensures { OnOk result (sink.new ≡ taking S.taken (with_values spec.shutdown_headers) sink.old) }
 {
     give(sink, "Event-Info", b"System Shutting Down")
+}
+
+/// Tells a queue, and what happened there.
+fn tell_queue<S: HeaderSink>(sink: &mut S, name: &Txt, action: QueueAction) -> Result<(), Memory>
+    ensures { OnOk result (sink.new
+        ≡ taking S.taken (with_values (spec.queue_headers name.now action)) sink.old) }
+{
+    give(sink, "FIFO-Name", name.as_bytes())?;
+    give(sink, "FIFO-Action", action.name())
 }
 
 /// Tells variables, in order, with their names escaped.

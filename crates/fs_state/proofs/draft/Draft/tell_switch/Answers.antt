@@ -1,19 +1,16 @@
-use Rattle.fs_state.proofs.draft.Draft.tell_first.Goals as goal
+use Rattle.fs_state.proofs.draft.Draft.tell_switch.Goals as goal
 
 pub returns : goal.returns
 returns g c =
     rw (
-      c.in_ok-put-3.ensures,
       c.in_ok-put-2.ensures,
       c.in_ok-put.ensures,
       c.as_bytes.ensures.value,
-      c.name.ensures,
-      c.as_bytes-2.ensures.value,
       c.uuid_in-core.ensures,
       c.settings.ensures,
-      c.as_bytes-3.ensures.value,
+      c.as_bytes-2.ensures.value,
       c.format.ensures.text,
-      c.as_bytes-4.ensures.value,
+      c.as_bytes-3.ensures.value,
       c.format-2.ensures.text,
       c.moment.ensures,
-    ) at c.put-4.ensures
+    ) at c.put-3.ensures

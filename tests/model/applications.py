@@ -156,10 +156,10 @@ APPLICATIONS = {
     "bridge": run_bridge,
     "park": run_park,
     "transfer": run_transfer,
+    "fifo": run_fifo,
 }
 
 # what the program does not know yet
 COMING = {
-    "fifo": run_fifo,
     "socket": run_socket,
 }

@@ -2,7 +2,6 @@
 
 from background import Crowds, FurtherBlocks, FurtherStreams, Jobs
 from dialplan import Document, Extension
-from further import Further
 from layers import Layers
 from limits import Bytes, Limits, Room
 from messages import Messages, Variables
@@ -11,6 +10,7 @@ from shutdowns import Shutdowns
 from spelling import Spelling
 from streams import Blocks, Streams
 from times import Times
+from waiting import Queues, Trying
 from words import Words
 
 
@@ -48,10 +48,22 @@ class Mixture(Layers):
         return super().command(session)
 
 
-class Everything(Mixture, Further):
-    """Documents of several kinds in one, all commands, and longer plays."""
+class Everything(Mixture, Trying):
+    """Documents of several kinds in one, all commands, and longer plays, queues among them."""
+
+    FURTHER_PARTS = (Queues,)
+
+    def __init__(self, seed):
+        super().__init__(seed)
+        self.further_parts = [kind(f"mixed {seed}") for kind in self.FURTHER_PARTS if self.chance(0.8)]
+        self.parts += self.further_parts
+
+    def tried(self):
+        return self.fifo()
 
     def command(self, session):
+        if self.further_parts and self.chance(0.35):
+            return self.random.choice(self.further_parts).command(session)
         usual = super().command
         return self.chosen(
             session,
@@ -66,6 +78,6 @@ class Everything(Mixture, Further):
 
 ALL = (
     Words, Layers, Rings, Times, Bytes, Limits, Spelling, Room, Mixture, Messages, Variables, Jobs, Crowds,
-    Shutdowns, Everything, Blocks, FurtherBlocks, Streams, FurtherStreams,
+    Shutdowns, Queues, Everything, Blocks, FurtherBlocks, Streams, FurtherStreams,
 )
 KINDS = {kind.__name__.lower(): kind for kind in ALL}

@@ -32,6 +32,11 @@ fn tell_application(application: &Application, answer: &mut Answer) {
             answer.named("Transfer", to.exten.as_bytes());
             tell_where(to, answer);
         }
+        Application::FifoIn { name } => answer.named("FifoIn", name.as_bytes()),
+        Application::FifoOut { name, waits } => {
+            answer.named("FifoOut", name.as_bytes());
+            tell_whether_it_waits(*waits, answer);
+        }
         Application::Unknown => answer.line("Unknown"),
     }
 }
@@ -42,6 +47,12 @@ fn assignment_name(how: Assignment) -> &'static str {
         Assignment::Unset => "Unset",
         Assignment::Export => "Export",
         Assignment::SetGlobal => "SetGlobal",
+    }
+}
+
+fn tell_whether_it_waits(waits: bool, answer: &mut Answer) {
+    if waits {
+        answer.line("waits");
     }
 }
 

@@ -37,6 +37,7 @@ fn tell_application(application: &Application, answer: &mut Answer) {
             answer.named("FifoOut", name.as_bytes());
             tell_whether_it_waits(*waits, answer);
         }
+        Application::Socket { target } => answer.named("Socket", target.as_bytes()),
         Application::Unknown => answer.line("Unknown"),
     }
 }

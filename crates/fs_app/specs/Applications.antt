@@ -86,7 +86,8 @@ application_of name argument =
     else (if bytes_eq name (codes "park") then app.Park
     else (if bytes_eq name (codes "transfer") then transfer_to (target_in (without_spaces argument))
     else (if bytes_eq name (codes "fifo") then fifo_application argument
-    else app.Unknown))))))))
+    else (if bytes_eq name (codes "socket") then app.Socket argument
+    else app.Unknown)))))))))
 
 -- the texts of a transfer can stand in a profile
 abbrev pub IsShortApplication : Application → Type 0

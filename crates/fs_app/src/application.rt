@@ -26,6 +26,8 @@ pub enum Application {
     /// The channel takes the first caller of the queue of a name, which is not empty; where there is none it goes on,
     /// unless it waits for one.
     FifoOut { name: Txt, waits: bool },
+    /// The channel has a controller dialed, where this argument names one, and is held by its connection then.
+    Socket { target: Txt },
     /// There is no such application, or its words are out of their form.
     Unknown,
 }
@@ -49,6 +51,7 @@ impl Drop for Application {
                 name: _name,
                 waits: _,
             } => {}
+            Application::Socket { target: _target } => {}
             Application::Unknown => {}
         }
     }

@@ -43,6 +43,9 @@ impl Application {
             transfer_application(alloc, without_spaces(argument))
         } else if name == b"fifo".as_slice() {
             fifo_application(alloc, without_spaces(argument))
+        } else if name == b"socket".as_slice() {
+            let target = Txt::of(alloc, argument)?;
+            Ok(Application::Socket { target })
         } else {
             Ok(Application::Unknown)
         }

@@ -42,9 +42,9 @@ in_media c = record c { leg_of = None; state = CsExchangeMedia }
 abbrev pub unbridged : Cause → Chan → Chan
 unbridged cause c = record c { peer = None; vars = with_set c.vars (codes "bridge_hangup_cause") (cause_name cause) }
 
--- it has left what it ran and waited for, and has no actions; messages stay
+-- it has left what it ran and waited for and the connection that held it, and has no actions; messages stay
 abbrev pub at_leisure : Chan → Chan
-at_leisure c = at_rest (record c { actions = [] })
+at_leisure c = at_rest (record c { actions = []; socket = None })
 
 -- ---- what a channel hands on to the legs that it dials
 

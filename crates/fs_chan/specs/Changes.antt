@@ -61,9 +61,10 @@ sent_to to p = record p {
   context = unwrap_or to.context p.context;
 }
 
--- to be routed anew; messages stay
+-- to be routed anew; messages stay, and no connection holds it any more
 abbrev pub transferred : Target3 → Chan → Chan
-transferred to c = record c { profile = sent_to to c.profile; actions = []; running = None; wait = Ready; state = CsRouting }
+transferred to c =
+    record c { profile = sent_to to c.profile; actions = []; running = None; wait = Ready; socket = None; state = CsRouting }
 
 -- the texts of a target can stand in a profile
 pub record IsShortTarget (to : Target3) : Type 0 where

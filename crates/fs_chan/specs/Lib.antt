@@ -6,4 +6,5 @@ pub mod Work
 pub mod Headers
 pub mod Bridging
 pub mod Queueing
+pub mod Controlling
 pub mod Targets

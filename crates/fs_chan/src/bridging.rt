@@ -69,11 +69,12 @@ impl Chan {
         Ok(())
     }
 
-    /// Leaves what it ran and waited for. Its actions are dropped; messages stay.
+    /// Leaves what it ran and waited for, and the connection that held it. Its actions are dropped; messages stay.
     pub fn leave_all(&mut self)
         ensures { self.new ≡ spec.at_leisure self.old }
     {
         self.actions.clear();
+        self.socket = None;
         self.go_on();
     }
 

@@ -35,8 +35,8 @@ impl Chan {
         true
     }
 
-    /// Begins to be routed to a target. What it ran, waited for and was still to run as actions is dropped;
-    /// messages stay.
+    /// Begins to be routed to a target. What it ran, waited for and was still to run as actions is dropped, and no
+    /// connection holds it any more; messages stay.
     pub fn transfer(&mut self, to: Target3) -> Result<(), Memory>
         requires { spec.IsShortTarget to }
         ensures ok { OnOk result (self.new ≡ spec.transferred to self.old) }
@@ -47,6 +47,7 @@ impl Chan {
         self.actions.clear();
         self.running = None;
         self.wait = Wait::Ready;
+        self.socket = None;
         self.state = State::CsRouting;
         Ok(())
     }

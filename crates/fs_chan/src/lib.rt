@@ -6,6 +6,7 @@ mod assignment;
 mod bridging;
 mod chan;
 mod changes;
+mod controlling;
 mod due;
 mod exports;
 mod headers;

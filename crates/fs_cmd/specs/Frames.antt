@@ -1,5 +1,5 @@
 -- The frames that a connection is sent.
-use Rattle.std.specs.Prelude.{ℕ, List, [], map, ◌++◌, ◌==◌, length, codes, Option, unwrap_or, if◌then◌else◌}
+use Rattle.std.specs.Prelude.{ℕ, List, [], map, ◌++◌, ◌==◌, length, codes, Option, None, Some, unwrap_or, if◌then◌else◌}
 use Rattle.std.specs.List.{concat}
 use Rattle.std.specs.Fmt.{decimal}
 use Rattle.fs_text.specs.Headers.{header_line}
@@ -30,6 +30,26 @@ api_reply answer = with_body (codes "api/response") (spoken answer)
 unfoldable pub notice : List ℕ
 notice =
     with_body (codes "text/disconnect-notice") (codes "Disconnected, goodbye.\nSee you at ClueCon! http://www.cluecon.com/\n")
+
+-- the headers that tell which channel a connection controlled
+abbrev pub controlled_headers : List ℕ → List ℕ
+controlled_headers uuid =
+    header_line (codes "Controlled-Session-UUID", uuid) ++ header_line (codes "Content-Disposition", codes "disconnect")
+
+-- the last frame of a connection that controlled the channel of an identifier
+unfoldable pub notice_for : List ℕ → List ℕ
+notice_for uuid =
+    codes "Content-Type: text/disconnect-notice\n" ++ controlled_headers uuid
+    ++ codes "Content-Length: 67\n\nDisconnected, goodbye.\nSee you at ClueCon! http://www.cluecon.com/\n"
+
+-- the last frame of a connection, which may have controlled one
+abbrev pub notice_of : Option (List ℕ) → List ℕ
+notice_of None = notice
+notice_of (Some uuid) = notice_for uuid
+
+-- the command is not for a controller of one channel
+unfoldable pub denied : List ℕ
+denied = codes "-ERR permission denied"
 
 -- ---- the texts of replies
 

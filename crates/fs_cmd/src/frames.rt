@@ -12,6 +12,9 @@ use std::alloc::Global;
 // The bytes that are set aside for the headers of a frame, so that it is formed in one buffer.
 const HEADER_ROOM: usize = 80;
 
+// The bytes that are set aside for what stands round an identifier in a notice.
+const NOTICE_ROOM: usize = 192;
+
 // The bytes that are set aside for what stands round a filter or an identifier in a reply's text.
 const BRACKET_ROOM: usize = 32;
 
@@ -72,6 +75,31 @@ pub fn notice(alloc: Global) -> Result<Txt, Memory>
         b"Content-Type: text/disconnect-notice\nContent-Length: ",
         farewell,
     )
+}
+
+/// The last frame of a connection that controlled the channel of an identifier, if it is given one.
+pub fn notice_of(alloc: Global, controlled: Option<&[u8]>) -> Result<Txt, Memory>
+    ensures { IfOk result (λ t. t ≡ spec.notice_of (option_copied controlled.entry)) }
+{
+    match controlled {
+        Some(uuid) => notice_for(alloc, uuid),
+        None => notice(alloc),
+    }
+}
+
+// The last frame of a connection that controlled the channel of an identifier.
+#[tactic(auto, unfolding(crate::specs::Frames::notice_for))]
+fn notice_for(alloc: Global, uuid: &[u8]) -> Result<Txt, Memory>
+    ensures { IfOk result (λ t. t ≡ spec.notice_for uuid.now) }
+{
+    let mut frame = Vec::with_capacity(alloc, uuid.len().saturating_add(NOTICE_ROOM))?;
+    frame.extend_from_slice(b"Content-Type: text/disconnect-notice\n")?;
+    push_header(&mut frame, b"Controlled-Session-UUID", uuid)?;
+    push_header(&mut frame, b"Content-Disposition", b"disconnect")?;
+    frame.extend_from_slice(
+        b"Content-Length: 67\n\nDisconnected, goodbye.\nSee you at ClueCon! http://www.cluecon.com/\n",
+    )?;
+    Txt::from_vec(frame)
 }
 
 // A body behind a head that is to end with its length.

@@ -7,6 +7,7 @@ mod message;
 
 pub use command::{Command, Form};
 pub use frames::{
-    api_reply, auth_request, filter_added, filter_deleted, invalid_session, notice, reply,
+    api_reply, auth_request, filter_added, filter_deleted, invalid_session, notice, notice_of,
+    reply,
 };
 pub use message::Message;

@@ -11,7 +11,7 @@ use Rattle.fs_state.specs.Switch.{Switch, empty, waiting_for, is_full}
 use Rattle.fs_machine.specs.declared.due.DueActor.{DueActor}
 use Rattle.fs_machine.specs.declared.due.DueActor.TheVariants as due
 use Rattle.fs_machine.specs.declared.entry.Act.{Act}
-use Rattle.fs_machine.specs.declared.entry.Act.TheVariants.{Arrive, Command, Take, Close, Work, Job}
+use Rattle.fs_machine.specs.declared.entry.Act.TheVariants.{Arrive, Command, Take, Close, Dialed, Work, Job}
 use Rattle.fs_machine.specs.declared.entry.Closing.TheVariants.{EndOfInput, Sent}
 use Rattle.fs_machine.specs.declared.refusal.Refusal.TheVariants as refusal
 use Rattle.fs_machine.specs.Connections.{phase_at}
@@ -57,6 +57,7 @@ worked_agrees config within p run = by (next_actor p) refl
   where
     by : (who : DueActor) → next_actor p ≡ who → after_due_work_as by_refusal who p ≡ after_due_work_as by_room who p
     by (due.Slot slot) is = fit_agrees (Work slot) p (λ goes_on. fit_due config (Work slot) p within run (ap act_of is))
+    by (due.Dial slot) is = fit_agrees (Dialed slot false) p (λ goes_on. fit_due config (Dialed slot false) p within run (ap act_of is))
     by (due.Job number) is = fit_agrees (Job number) p (λ goes_on. fit_due config (Job number) p within run (ap act_of is))
     by (due.Later moment) is = refl
     by due.Never is = refl
@@ -77,6 +78,7 @@ waited_once_agrees config within p run = ap (λ q. cond (waits p) q p) (by (next
     by : (who : DueActor) → after_waiting_until_as by_refusal who p ≡ after_waiting_until_as by_room who p
     by (due.Later moment) = settled_agrees config within (record p { clock = moment }) ((each_run config).goes_on moment p run)
     by (due.Slot slot) = refl
+    by (due.Dial slot) = refl
     by (due.Job number) = refl
     by due.Never = refl
 

@@ -8,7 +8,7 @@ use Rattle.fs_seats.specs.Rows.{seat_of}
 use Rattle.fs_seats.proofs.RowLemmas.{seat_stands}
 use Rattle.fs_state.specs.Switch.{Switch, empty}
 use Rattle.fs_book.specs.Opened.{NoneNames}
-use Rattle.fs_book.specs.Numbered.{count_among}
+use Rattle.fs_book.specs.Numbered.{count_behind}
 use Rattle.fs_book.proofs.Opening.{own_new}
 use Rattle.fs_machine.specs.declared.entry.Entry.{Entry}
 use Rattle.fs_machine.specs.declared.entry.Act.TheVariants.{Arrive}
@@ -18,7 +18,7 @@ use Rattle.fs_machine.specs.Connections.{phase_at}
 use Rattle.fs_machine.specs.Step.{is_closed, step}
 use Rattle.fs_machine.specs.Runs.{run_from, IsRunFrom}
 use Rattle.fs_machine.specs.Laws.{state_after}
-use Rattle.fs_machine.specs.Turned.{IsJournal, Answers, opens, names, arrives}
+use Rattle.fs_machine.specs.Turned.{IsJournal, Answers, comes_after, opens, names}
 use Rattle.fs_machine.specs.Carried.{HasCome}
 use Rattle.fs_machine.proofs.WaitingLemmas.{none_closed}
 use Rattle.fs_machine.proofs.OrderLemmas.{Orderly, entry_orderly, empty_orderly}
@@ -73,9 +73,10 @@ pub came : (config : Configuration) (before : List Entry) (mine : List ℕ) (mom
 came config before mine moment answer taken =
     let arrived = arrived_opens config before moment answer taken in
     let orderly = empty_orderly config taken.before.within.settings.journal.1 in
-    let drawn : (state_after config before).drawn.conns ≡ count_among arrives before =
-    run_counts (empty config) before orderly taken.before.run ∙ none_more (count_among arrives before) in
-    let number_is : suc (count_among arrives before) ≡ arrived.0 = cc arrived.2 in (
+    let count : ℕ = count_behind (comes_after config) [] before in
+    let drawn : (state_after config before).drawn.conns ≡ count =
+    run_counts config [] before orderly taken.before.run ∙ none_more count in
+    let number_is : suc count ≡ arrived.0 = cc arrived.2 in (
       arrived.0,
       arrived.1,
       record {

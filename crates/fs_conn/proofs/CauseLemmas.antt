@@ -1,6 +1,6 @@
 -- Each end of a play has its cause.
 use Rattle.std.proofs.Common.{◌≡◌, ◌≢◌, ℕ, zero, suc, Bool, true, false, cond, List, [], ◌∷◌, ◌++◌, length, Option, None, Some, is_some, refl}
-use Rattle.std.proofs.Common.{sym, ap, ◌∙◌, subst, append_assoc, append-nil}
+use Rattle.std.proofs.Common.{inl, inr, sym, ap, ◌∙◌, subst, append_assoc, append-nil}
 use Rattle.std.specs.List.{AllByRecursion}
 use Rattle.std.proofs.lemmas.Bool.{both_ways}
 use Rattle.std.proofs.lemmas.Option.{none-some}
@@ -16,7 +16,7 @@ use Rattle.fs_machine.specs.declared.due.DueActor.{DueActor}
 use Rattle.fs_machine.specs.declared.due.DueActor.TheVariants as due
 use Rattle.fs_machine.specs.declared.entry.Entry.{Entry}
 use Rattle.fs_machine.specs.declared.entry.Act.{Act}
-use Rattle.fs_machine.specs.declared.entry.Act.TheVariants.{Work, Job}
+use Rattle.fs_machine.specs.declared.entry.Act.TheVariants.{Dialed, Work, Job}
 use Rattle.fs_machine.specs.declared.refusal.Refusal.{Refusal}
 use Rattle.fs_machine.specs.declared.refusal.Refusal.TheVariants as refusal
 use Rattle.fs_state.specs.Switch.{is_full}
@@ -31,14 +31,14 @@ use Rattle.fs_conn.specs.Play.{Play, switch_of, is_over, with_end, after_judging
 use Rattle.fs_conn.specs.Play.{after_due_step, with_runaway_end_by, after_settling, after_settling_as, after_opening, after_conversing}
 use Rattle.fs_conn.specs.Play.{after_closing, end_by, farewell, end_behind, played, played_as}
 use Rattle.fs_conn.specs.Steps.{act_of, entry_of}
-use Rattle.fs_conn.specs.Ends.{EndsFor, IsStoppedBy, IsFullAt, IsWork, IsWorkAt, EndsInWork, RanAway, HasCause}
+use Rattle.fs_conn.specs.Ends.{EndsFor, IsFullAt, IsWork, IsWorkAt, EndsInWork, RanAway, HasCause}
 use Rattle.fs_conn.proofs.PlayLemmas.{goes_entered, goes_all_worked}
 use Rattle.fs_conn.proofs.RoundLemmas.{repeated_none}
 use Rattle.fs_conn.proofs.SettleLemmas.{worked_none}
 use Rattle.fs_conn.proofs.KeepLemmas.{Keeps, kept_repeated, kept_worked_once, kept_opened, kept_all_commanded, kept_closed}
 use Rattle.fs_conn.proofs.LawLemmas.{Any, IsRun, each_run, keeps_run, config_played}
 use Rattle.fs_conn.proofs.CloseLemmas.{IsFit, filled, longer_by, fit_entered, fit_due, worked_due}
-use Rattle.fs_conn.proofs.PartLemmas.{Parted, parted_closed, stopped_closed, parted_last, Tells, tells_conversed}
+use Rattle.fs_conn.proofs.PartLemmas.{stopped_by_end, Parted, parted_closed, Until, until_closed, parted_last, Tells, tells_conversed}
 
 -- ---- rounds of work
 
@@ -61,6 +61,7 @@ worked_first n act p q is h = record {
 
 is_work : (who : DueActor) (act : Act) → act_of who ≡ Some act → IsWork act
 is_work (due.Slot slot) act is = let same : Work slot ≡ act = cc is in subst IsWork same tt
+is_work (due.Dial slot) act is = let same : Dialed slot false ≡ act = cc is in subst IsWork same tt
 is_work (due.Job number) act is = let same : Job number ≡ act = cc is in subst IsWork same tt
 is_work (due.Later moment) act is = absurd (cc is)
 is_work due.Never act is = absurd (cc is)
@@ -170,6 +171,7 @@ caused_entered config act p h = record {
 
 caused_worked : (config : Configuration) (who : DueActor) (p : Play) → Caused config p → Caused config (after_due_work who p)
 caused_worked config (due.Slot slot) p h = caused_entered config (Work slot) p h
+caused_worked config (due.Dial slot) p h = caused_entered config (Dialed slot false) p h
 caused_worked config (due.Job number) p h = caused_entered config (Job number) p h
 caused_worked config (due.Later moment) p h = h
 caused_worked config due.Never p h = h
@@ -218,6 +220,9 @@ caused_stopped : (config : Configuration) (p q : Play) (who : DueActor) → q �
 caused_stopped config p q (due.Slot slot) is run h at =
     caused_away config p q is run h
     (λ none. let e : act_of (due.Slot slot) ≡ None = ap act_of (sym at) ∙ none in none-some (Work slot) (sym e))
+caused_stopped config p q (due.Dial slot) is run h at =
+    caused_away config p q is run h
+    (λ none. let e : act_of (due.Dial slot) ≡ None = ap act_of (sym at) ∙ none in none-some (Dialed slot false) (sym e))
 caused_stopped config p q (due.Job number) is run h at =
     caused_away config p q is run h
     (λ none. let e : act_of (due.Job number) ≡ None = ap act_of (sym at) ∙ none in none-some (Job number) (sym e))
@@ -270,15 +275,18 @@ cause_unparted p (Some faults.BadLength) read_failed = refl
 cause_unparted p None true = (refl, refl)
 cause_unparted p None false = (refl, refl)
 
--- or by its last command, or by the end of the switch
+-- or by its last command, or by the end of the switch, or since its channel left it
 cause_behind : (last p : Play) (fault : Option Fault) (read_failed : Bool) (parting : Option Parting) → Tells last →
-    ((why : Parting) → Parted why last → Parted why p) → (IsStoppedBy last.config last.journal → IsStoppedBy p.config p.journal) →
+    ((why : Parting) → Parted why last → Parted why p) → ((why : Parting) → Until why last → Until why p) →
     parting_at (switch_of last) 1 ≡ parting →
     HasCause (end_behind (end_by parting) fault read_failed) p fault read_failed
 cause_behind last p fault read_failed (Some way.Exit) tells later still is = later way.Exit (tells.parted way.Exit refl is)
 cause_behind last p fault read_failed (Some way.AuthRefused) tells later still is =
     later way.AuthRefused (tells.parted way.AuthRefused refl is)
-cause_behind last p fault read_failed (Some way.Stopped) tells later still is = still (tells.stopped is)
+cause_behind last p fault read_failed (Some way.Stopped) tells later still is =
+    inl (stopped_by_end p.config p.journal (still way.Stopped (tells.aside way.Stopped refl is)))
+cause_behind last p fault read_failed (Some way.ChannelLeft) tells later still is =
+    let until = still way.ChannelLeft (tells.aside way.ChannelLeft refl is) in inr until.at
 cause_behind last p fault read_failed (Some way.EndOfInput) tells later still is = cause_unparted p fault read_failed
 cause_behind last p fault read_failed None tells later still is = cause_unparted p fault read_failed
 
@@ -306,7 +314,7 @@ cause_played config input read_failed end is =
     let how = end_behind (farewell last) (fault_of (rest_of input)) read_failed in
     cause_ended how end closed (fault_of (rest_of input)) read_failed (caused_closed config input).cause
     (cause_behind last (record closed { end = Some how }) (fault_of (rest_of input)) read_failed (parting_at (switch_of last) 1)
-    (tells_conversed config input) (λ why h. parted_closed why last h) (λ h. stopped_closed last h) refl) is
+    (tells_conversed config input) (λ why h. parted_closed why last h) (λ why h. until_closed why last h) refl) is
 
 -- ---- the last command
 

@@ -13,7 +13,7 @@ use Rattle.fs_machine.specs.declared.due.DueActor.{DueActor}
 use Rattle.fs_machine.specs.declared.due.DueActor.TheVariants as due
 use Rattle.fs_machine.specs.declared.entry.Entry.{Entry}
 use Rattle.fs_machine.specs.declared.entry.Act.{Act}
-use Rattle.fs_machine.specs.declared.entry.Act.TheVariants.{Arrive, Command, Take, Close, Work, Job}
+use Rattle.fs_machine.specs.declared.entry.Act.TheVariants.{Arrive, Command, Take, Close, Dialed, Work, Job}
 use Rattle.fs_machine.specs.declared.entry.Closing.TheVariants.{EndOfInput, Sent}
 use Rattle.fs_machine.specs.declared.refusal.Refusal.{Refusal}
 use Rattle.fs_machine.specs.declared.refusal.Refusal.TheVariants as refusal
@@ -30,8 +30,9 @@ use Rattle.fs_machine.proofs.OrderLemmas.{acted_cost, not_full}
 use Rattle.fs_machine.proofs.FramesLaws.{settings_run}
 use Rattle.fs_machine.proofs.HereLemmas.{ClosesNone, arrival_accepted, arrival_here}
 use Rattle.fs_machine.proofs.OwedLaws as owed_laws
+use Rattle.fs_machine.proofs.LeftLemmas.{NoneLeft, run_none_left, empty_none_left}
 use Rattle.fs_machine.proofs.CloseLaws.{ending_at, end_parts, take_leaves_phase, sent_accepted}
-use Rattle.fs_machine.proofs.DueLaws.{AreKnown, run_is_known, slot_accepted, job_accepted, IsDue, comes_due}
+use Rattle.fs_machine.proofs.DueLaws.{AreKnown, run_is_known, slot_accepted, dial_accepted, job_accepted, IsDue, comes_due}
 use Rattle.fs_conn.specs.declared.end.End.{End}
 use Rattle.fs_conn.specs.declared.end.End.TheVariants.{JournalFull, Runaway}
 use Rattle.fs_conn.specs.Play.{Play, switch_of, new_play, is_over, with_end, after_judging, after_trying_act, repeated, after_due_work}
@@ -142,6 +143,7 @@ paid_judged config least act (Some _) p small run is paid = paid
 each_spent : (config : Configuration) (least : ℕ) → config.settings.journal_limit ≤ 1073741824 → KeepsEach Any (Spent config least)
 each_spent config least small = record {
   works = λ slot. tt;
+  dials = λ slot. tt;
   jobs = λ number. tt;
   takes = tt;
   enters = λ act such p h. record {
@@ -179,6 +181,9 @@ fit_due config act p within run is = by (next_actor p) refl is
   where
     by : (who : DueActor) → next_actor p ≡ who → act_of who ≡ Some act → IsFit act p
     by (due.Slot slot) at e = let same : Work slot ≡ act = cc e in subst (λ a. IsFit a p) same (slot_accepted (switch_of p) p.clock slot at)
+    by (due.Dial slot) at e =
+        let same : Dialed slot false ≡ act = cc e in
+        subst (λ a. IsFit a p) same (dial_accepted (switch_of p) p.clock slot false at)
     by (due.Job number) at e =
         let same : Job number ≡ act = cc e in
         subst (λ a. IsFit a p) same (job_accepted (switch_of p) p.clock number (known_of config p within run) at)
@@ -200,12 +205,14 @@ paid_entered config act p small run fit = by (is_over p) refl (is_full (switch_o
 -- somebody who has something to do has an act
 act_due : (who : DueActor) → IsDue who → (act : Act) × (act_of who ≡ Some act)
 act_due (due.Slot slot) is = (Work slot, refl)
+act_due (due.Dial slot) is = (Dialed slot false, refl)
 act_due (due.Job number) is = (Job number, refl)
 act_due (due.Later moment) is = absurd is
 act_due due.Never is = absurd is
 
 pub worked_due : (who : DueActor) (act : Act) (p : Play) → act_of who ≡ Some act → after_due_work who p ≡ after_trying_act act p
 worked_due (due.Slot slot) act p is = let same : Work slot ≡ act = cc is in ap (λ a. after_trying_act a p) same
+worked_due (due.Dial slot) act p is = let same : Dialed slot false ≡ act = cc is in ap (λ a. after_trying_act a p) same
 worked_due (due.Job number) act p is = let same : Job number ≡ act = cc is in ap (λ a. after_trying_act a p) same
 worked_due (due.Later moment) act p is = absurd (cc is)
 worked_due due.Never act p is = absurd (cc is)
@@ -235,6 +242,7 @@ over_ended end p = by (is_over p) refl
 
 idle_stopped : (who : DueActor) (p : Play) → next_actor p ≡ who → Idle (with_runaway_end_by who p)
 idle_stopped (due.Slot slot) p is = inl (over_ended (Runaway 100000) p)
+idle_stopped (due.Dial slot) p is = inl (over_ended (Runaway 100000) p)
 idle_stopped (due.Job number) p is = inl (over_ended (Runaway 100000) p)
 idle_stopped (due.Later moment) p is = inr (ap act_of is)
 idle_stopped due.Never p is = inr (ap act_of is)
@@ -301,6 +309,7 @@ once config moments p within goes = by (owes (switch_of p) 1) refl
     at : owes (switch_of p) 1 ≡ true → (who : DueActor) → next_actor p ≡ who →
         Rests (after_waiting_until who p) ⊎ Goes config (moments + 1) (after_waiting_until who p)
     at owed (due.Slot slot) is = let none : act_of (due.Slot slot) ≡ None = ap act_of (sym is) ∙ goes.idle in absurd (cc none)
+    at owed (due.Dial slot) is = let none : act_of (due.Dial slot) ≡ None = ap act_of (sym is) ∙ goes.idle in absurd (cc none)
     at owed (due.Job number) is = let none : act_of (due.Job number) ≡ None = ap act_of (sym is) ∙ goes.idle in absurd (cc none)
     at owed (due.Later moment) is =
         later (after_settling (record p { clock = moment }))
@@ -422,10 +431,15 @@ pub record Parted (p : Play) : Type 0 where
   pub ending : phase_at (switch_of p) 1 ≡ Ending
   pub free : owes (switch_of p) 1 ≡ false
 
+-- between entries no connection stands whose channel has left it
+pub none_left_of : (p : Play) → NoneLeft (switch_of p)
+none_left_of p = run_none_left (empty p.config) p.journal (empty_none_left p.config)
+
 -- taking frames leaves it so
 parted_judged : (cause : Option Refusal) (p : Play) → Parted p → Parted (after_judging cause (entry_of (Take 1) p) p)
 parted_judged None p h = record {
-  ending = ap (λ (s : Switch). phase_at s 1) (switch_longer (Take 1) p) ∙ take_leaves_phase (switch_of p) p.clock 1 ∙ h.ending;
+  ending = ap (λ (s : Switch). phase_at s 1) (switch_longer (Take 1) p) ∙ take_leaves_phase (switch_of p) p.clock 1 (none_left_of p)
+      ∙ h.ending;
   free = ap (λ (s : Switch). owes s 1) (switch_longer (Take 1) p) ∙ take_owes (switch_of p) p.clock 1 1 ∙ h.free;
 }
 parted_judged (Some (refusal.JournalFull cost limit)) p h = record { ending = h.ending; free = h.free }

@@ -71,6 +71,7 @@ says_judged blocks (Some _) entry p silent h = h
 keeps_says : (blocks : List (List ℕ)) → Keeps IsSilent (Says blocks)
 keeps_says blocks = by_each IsSilent (Says blocks) (record {
   works = λ slot. refl;
+  dials = λ slot. refl;
   jobs = λ number. refl;
   takes = refl;
   enters =
@@ -227,6 +228,7 @@ farewell_none (Some way.EndOfInput) fault read_failed is = refl
 farewell_none (Some way.Exit) fault read_failed is = absurd (cc is)
 farewell_none (Some way.AuthRefused) fault read_failed is = absurd (cc is)
 farewell_none (Some way.Stopped) fault read_failed is = absurd (cc is)
+farewell_none (Some way.ChannelLeft) fault read_failed is = absurd (cc is)
 
 -- a play that ended so with its connection was not over before
 ended_with : (how end : End) (p : Play) → Early p → (with_end how p).end ≡ Some end → is_early end ≡ false →

@@ -197,6 +197,7 @@ unfailed_judged (Some _) entry p such h = h
 keeps_unfailed : Keeps IsUnfailed Unfailed
 keeps_unfailed = by_each IsUnfailed Unfailed (record {
   works = λ slot. tt;
+  dials = λ slot. tt;
   jobs = λ number. tt;
   takes = tt;
   enters =

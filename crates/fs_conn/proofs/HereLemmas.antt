@@ -49,6 +49,7 @@ here_entered act such p here = by (is_over p) refl
 pub keeps_here : Keeps ClosesNone Here
 keeps_here = by_each ClosesNone Here (record {
   works = λ slot. tt;
+  dials = λ slot. tt;
   jobs = λ number. tt;
   takes = tt;
   enters = here_entered;

@@ -5,7 +5,7 @@ use Rattle.fs_state.specs.Switch.{waiting_for}
 use Rattle.fs_machine.specs.declared.due.DueActor.{DueActor}
 use Rattle.fs_machine.specs.declared.due.DueActor.TheVariants as due
 use Rattle.fs_machine.specs.declared.entry.Act.{Act}
-use Rattle.fs_machine.specs.declared.entry.Act.TheVariants.{Arrive, Command, Take, Close, Work, Job}
+use Rattle.fs_machine.specs.declared.entry.Act.TheVariants.{Arrive, Command, Take, Close, Dialed, Work, Job}
 use Rattle.fs_machine.specs.declared.entry.Closing.TheVariants.{EndOfInput, Sent}
 use Rattle.fs_machine.specs.Questions.{owes}
 use Rattle.fs_conn.specs.declared.end.End.TheVariants.{Runaway}
@@ -27,6 +27,7 @@ pub record Keeps (IsSuch : Act → Type 0) (Holds : Play → Type 0) : Type 0 wh
 -- the same, where all acts that a play enters by itself are of this kind, and it holds also once the play has run away
 pub record KeepsEach (IsSuch : Act → Type 0) (Holds : Play → Type 0) : Type 0 where
   pub works : (slot : ℕ) → IsSuch (Work slot)
+  pub dials : (slot : ℕ) → IsSuch (Dialed slot false)
   pub jobs : (number : ℕ) → IsSuch (Job number)
   pub takes : IsSuch (Take 1)
   pub enters : (act : Act) → IsSuch act → (p : Play) → Holds p → Holds (after_trying_act act p)
@@ -44,6 +45,7 @@ kept_repeated Holds (suc n) f keeps p holds = kept_repeated Holds n f keeps (f p
 kept_worked : (IsSuch : Act → Type 0) (Holds : Play → Type 0) → KeepsEach IsSuch Holds → (actor : DueActor) (p : Play) → Holds p →
     Holds (after_due_work actor p)
 kept_worked IsSuch Holds keeps (due.Slot slot) p holds = keeps.enters (Work slot) (keeps.works slot) p holds
+kept_worked IsSuch Holds keeps (due.Dial slot) p holds = keeps.enters (Dialed slot false) (keeps.dials slot) p holds
 kept_worked IsSuch Holds keeps (due.Job job) p holds = keeps.enters (Job job) (keeps.jobs job) p holds
 kept_worked IsSuch Holds keeps (due.Later moment) p holds = holds
 kept_worked IsSuch Holds keeps due.Never p holds = holds
@@ -51,6 +53,7 @@ kept_worked IsSuch Holds keeps due.Never p holds = holds
 kept_stopped : (IsSuch : Act → Type 0) (Holds : Play → Type 0) → KeepsEach IsSuch Holds → (actor : DueActor) (p : Play) → Holds p →
     Holds (with_runaway_end_by actor p)
 kept_stopped IsSuch Holds keeps (due.Slot slot) p holds = keeps.runs_away p holds
+kept_stopped IsSuch Holds keeps (due.Dial slot) p holds = keeps.runs_away p holds
 kept_stopped IsSuch Holds keeps (due.Job job) p holds = keeps.runs_away p holds
 kept_stopped IsSuch Holds keeps (due.Later moment) p holds = holds
 kept_stopped IsSuch Holds keeps due.Never p holds = holds
@@ -93,6 +96,7 @@ kept_until : (IsSuch : Act → Type 0) (Holds : Play → Type 0) → Keeps IsSuc
 kept_until IsSuch Holds keeps (due.Later moment) p still holds =
     keeps.settles (record p { clock = moment }) (keeps.goes_on moment p still holds)
 kept_until IsSuch Holds keeps (due.Slot slot) p still holds = holds
+kept_until IsSuch Holds keeps (due.Dial slot) p still holds = holds
 kept_until IsSuch Holds keeps (due.Job job) p still holds = holds
 kept_until IsSuch Holds keeps due.Never p still holds = holds
 

@@ -42,6 +42,7 @@ run_judged config (Some _) entry p is h = h
 pub each_run : (config : Configuration) → KeepsEach Any (IsRun config)
 each_run config = record {
   works = λ slot. tt;
+  dials = λ slot. tt;
   jobs = λ number. tt;
   takes = tt;
   enters =
@@ -122,6 +123,7 @@ early_away p h = elim (is_over p) as (λ b. Early (cond b p (record p { end = So
 keeps_early : Keeps Any Early
 keeps_early = by_each Any Early (record {
   works = λ slot. tt;
+  dials = λ slot. tt;
   jobs = λ number. tt;
   takes = tt;
   enters = λ act such p h. early_entered act p h;

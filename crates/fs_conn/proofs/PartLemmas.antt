@@ -13,7 +13,7 @@ use Rattle.fs_state.specs.declared.conn.Parting.TheVariants as parting
 use Rattle.fs_state.specs.Switch.{Switch, empty, is_full}
 use Rattle.fs_machine.specs.declared.entry.Entry.{Entry}
 use Rattle.fs_machine.specs.declared.entry.Act.{Act}
-use Rattle.fs_machine.specs.declared.entry.Act.TheVariants.{Arrive, Command, Take, Close, Work, Job, Halt}
+use Rattle.fs_machine.specs.declared.entry.Act.TheVariants.{Arrive, Command, Take, Close, Dialed, Work, Job, Halt}
 use Rattle.fs_machine.specs.declared.refusal.Refusal.{Refusal}
 use Rattle.fs_machine.specs.declared.refusal.Refusal.TheVariants as refusal
 use Rattle.fs_machine.specs.Connections.{phase_at}
@@ -24,6 +24,7 @@ use Rattle.fs_machine.specs.Concerns.{is_its_own, KeepsOrParts}
 use Rattle.fs_machine.specs.Runs.{run_from, IsRunFrom}
 use Rattle.fs_machine.proofs.RunLemmas.{is_run_more}
 use Rattle.fs_machine.proofs.StoppedMoves.{parts_at_end, goes_while_read}
+use Rattle.fs_machine.proofs.LeftLemmas.{NoneLeft}
 use Rattle.fs_machine.proofs.FramesLaws.{settings_run}
 use Rattle.fs_machine.proofs.FrameLemmas.{command_refused}
 use Rattle.fs_machine.proofs.PartLemmas.{others_part, take_keeps, CommandParts, command_parts, none_parted, arrival_unparted}
@@ -32,9 +33,9 @@ use Rattle.fs_conn.specs.declared.end.End.TheVariants.{Runaway}
 use Rattle.fs_conn.specs.Play.{Play, switch_of, new_play, is_over, after_judging, after_trying_act, reads_on, takes_commands, after_act}
 use Rattle.fs_conn.specs.Play.{after_command, after_commands, after_opening, after_conversing, after_closing}
 use Rattle.fs_conn.specs.Steps.{entry_of}
-use Rattle.fs_conn.specs.Ends.{PartsFor, command_at, IsPartedBy, EndsFor, IsStoppedBy}
+use Rattle.fs_conn.specs.Ends.{PartsFor, command_at, IsPartedBy, EndsFor, IsPartedAside, IsStoppedBy}
 use Rattle.fs_conn.proofs.KeepLemmas.{Keeps, by_each, kept_followed, kept_closed}
-use Rattle.fs_conn.proofs.CloseLemmas.{longer_by, switch_longer}
+use Rattle.fs_conn.proofs.CloseLemmas.{longer_by, switch_longer, none_left_of}
 use Rattle.fs_conn.proofs.CommandLemmas.{IsSilent, commands_more, commands_append, both_hold}
 
 -- ---- a journal that grows
@@ -60,20 +61,38 @@ parted_longer why config journal entry silent h = record {
   parted = h.parted;
 }
 
--- nor does the entry by which the switch came to its end change
-stopped_longer : (config : Configuration) (journal : List Entry) (entry : Entry) → command_in 1 entry.act ≡ [] →
-    IsStoppedBy config journal → IsStoppedBy config (journal ++ entry ∷ [])
-stopped_longer config journal entry silent h = record {
-  before = h.before;
-  entry = h.entry;
-  behind = h.behind ++ entry ∷ [];
-  split = ap (λ entries. entries ++ entry ∷ []) h.split ∙ append_assoc h.before (h.entry ∷ h.behind) (entry ∷ []);
-  last =
-      commands_more h.behind entry ∙ ap (λ blocks. commands_of 1 h.behind ++ blocks) silent ∙ append-nil (commands_of 1 h.behind) ∙ h.last;
-  unstopped = h.unstopped;
-  stopped = h.stopped;
-  unparted = h.unparted;
-  parted = h.parted;
+-- it parted by an entry of a journal, before which it read commands
+pub record ReadUntil (why : Parting) (config : Configuration) (journal : List Entry) : Type 0 where
+  pub at : IsPartedAside why config journal
+  pub run : IsRunFrom (empty config) at.before
+  pub reading : reads (phase_at (run_from (empty config) at.before) 1) ≡ true
+
+-- nor does that entry change
+until_longer : (why : Parting) (config : Configuration) (journal : List Entry) (entry : Entry) → command_in 1 entry.act ≡ [] →
+    ReadUntil why config journal → ReadUntil why config (journal ++ entry ∷ [])
+until_longer why config journal entry silent h = record {
+  at = record {
+    before = h.at.before;
+    entry = h.at.entry;
+    behind = h.at.behind ++ entry ∷ [];
+    split = ap (λ entries. entries ++ entry ∷ []) h.at.split ∙ append_assoc h.at.before (h.at.entry ∷ h.at.behind) (entry ∷ []);
+    last =
+        commands_more h.at.behind entry ∙ ap (λ blocks. commands_of 1 h.at.behind ++ blocks) silent
+        ∙ append-nil (commands_of 1 h.at.behind) ∙ h.at.last;
+    unparted = h.at.unparted;
+    parted = h.at.parted;
+  };
+  run = h.run;
+  reading = h.reading;
+}
+
+-- where it parted for the end of the switch, that entry brought it
+pub stopped_by_end : (config : Configuration) (journal : List Entry) → ReadUntil parting.Stopped config journal →
+    IsStoppedBy config journal
+stopped_by_end config journal h = record {
+  at = h.at;
+  unstopped = goes_while_read config h.at.before 1 h.run h.reading;
+  stopped = parts_at_end config (h.at.before ++ h.at.entry ∷ []) 1 h.at.parted;
 }
 
 -- so an act that is no command leaves what is told of a journal
@@ -92,6 +111,7 @@ module _ (Told : Configuration → List Entry → Type 0)
   keeps_told : Keeps IsSilent ToldOf
   keeps_told = by_each IsSilent ToldOf (record {
     works = λ slot. refl;
+    dials = λ slot. refl;
     jobs = λ number. refl;
     takes = refl;
     enters =
@@ -114,8 +134,11 @@ Parted why p = IsPartedBy why p.config p.journal
 pub parted_closed : (why : Parting) (p : Play) → Parted why p → Parted why (after_closing p)
 parted_closed why p h = told_closed (IsPartedBy why) (parted_longer why) p h
 
-pub stopped_closed : (p : Play) → IsStoppedBy p.config p.journal → IsStoppedBy (after_closing p).config (after_closing p).journal
-stopped_closed p h = told_closed IsStoppedBy stopped_longer p h
+abbrev pub Until : Parting → Play → Type 0
+Until why p = ReadUntil why p.config p.journal
+
+pub until_closed : (why : Parting) (p : Play) → Until why p → Until why (after_closing p)
+until_closed why p h = told_closed (ReadUntil why) (until_longer why) p h
 
 -- it ends the commands
 pub parted_last : (why : Parting) (config : Configuration) (journal : List Entry) → IsPartedBy why config journal →
@@ -133,38 +156,41 @@ parted_last why config journal h =
 -- ---- what a connection parts for
 
 -- The journal is a run. The connection has not parted while it reads commands, what it parted for by its own doing its last command tells,
--- and where it parted for the end of the switch an entry brought that.
+-- and where it parted otherwise it read commands until the entry by which it did.
 pub record Tells (p : Play) : Type 0 where
   pub run : IsRunFrom (empty p.config) p.journal
   pub here : reads_on p ≡ true → parting_at (switch_of p) 1 ≡ None
   pub parted : (why : Parting) → is_its_own why ≡ true → parting_at (switch_of p) 1 ≡ Some why → Parted why p
-  pub stopped : parting_at (switch_of p) 1 ≡ Some parting.Stopped → IsStoppedBy p.config p.journal
+  pub aside : (why : Parting) → is_its_own why ≡ false → parting_at (switch_of p) 1 ≡ Some why → Until why p
 
--- an entry by which one parts for it that read commands
-stops_now : (p : Play) (entry : Entry) → Tells p → reads_on p ≡ true →
-    parting_at (run_from (empty p.config) (p.journal ++ entry ∷ [])) 1 ≡ Some parting.Stopped →
-    IsStoppedBy p.config (p.journal ++ entry ∷ [])
-stops_now p entry h reading parts = record {
-  before = p.journal;
-  entry = entry;
-  behind = [];
-  split = refl;
-  last = refl;
-  unstopped = goes_while_read p.config p.journal 1 h.run reading;
-  stopped = parts_at_end p.config (p.journal ++ entry ∷ []) 1 parts;
-  unparted = h.here reading;
-  parted = parts;
+-- an entry by which one parts that read commands
+parts_now : (p : Play) (entry : Entry) (why : Parting) → Tells p → reads_on p ≡ true →
+    parting_at (run_from (empty p.config) (p.journal ++ entry ∷ [])) 1 ≡ Some why → ReadUntil why p.config (p.journal ++ entry ∷ [])
+parts_now p entry why h reading parts = record {
+  at = record {
+    before = p.journal;
+    entry = entry;
+    behind = [];
+    split = refl;
+    last = refl;
+    unparted = h.here reading;
+    parted = parts;
+  };
+  run = h.run;
+  reading = reading;
 }
 
--- acts that are none of its own, and Takes
+-- acts that are none of its own and by which none comes, and Takes
 abbrev IsAside : Act → Type 0
 IsAside (Work slot) = Unit {0}
+IsAside (Dialed slot linked) = linked ≡ false
 IsAside (Job number) = Unit {0}
 IsAside (Take taker) = Unit {0}
 IsAside _ = ⊥
 
 aside_silent : (act : Act) → IsAside act → command_in 1 act ≡ []
 aside_silent (Work slot) such = refl
+aside_silent (Dialed slot linked) such = refl
 aside_silent (Job number) such = refl
 aside_silent (Take taker) such = refl
 aside_silent Halt such = absurd such
@@ -172,14 +198,16 @@ aside_silent Arrive such = absurd such
 aside_silent (Command giver block) such = absurd such
 aside_silent (Close gone how) such = absurd such
 
-aside_keeps : (act : Act) (moment : ℕ) (s : Switch) → IsAside act → KeepsOrParts 1 s (step s (record { moment = moment; act = act })).state
-aside_keeps (Work slot) moment s such = others_part 1 moment (Work slot) s tt
-aside_keeps (Job number) moment s such = others_part 1 moment (Job number) s tt
-aside_keeps (Take taker) moment s such = inl (take_keeps 1 moment taker s)
-aside_keeps Halt moment s such = absurd such
-aside_keeps Arrive moment s such = absurd such
-aside_keeps (Command giver block) moment s such = absurd such
-aside_keeps (Close gone how) moment s such = absurd such
+aside_keeps : (act : Act) (moment : ℕ) (s : Switch) → IsAside act → NoneLeft s →
+    KeepsOrParts 1 s (step s (record { moment = moment; act = act })).state
+aside_keeps (Work slot) moment s such none = others_part 1 moment (Work slot) s tt
+aside_keeps (Dialed slot linked) moment s such none = others_part 1 moment (Dialed slot linked) s such
+aside_keeps (Job number) moment s such none = others_part 1 moment (Job number) s tt
+aside_keeps (Take taker) moment s such none = inl (take_keeps 1 moment taker s none)
+aside_keeps Halt moment s such none = absurd such
+aside_keeps Arrive moment s such none = absurd such
+aside_keeps (Command giver block) moment s such none = absurd such
+aside_keeps (Close gone how) moment s such none = absurd such
 
 -- such an act was entered
 tells_aside : (act : Act) (p : Play) (t : Switch) → IsAside act → refusal_of (switch_of p) (entry_of act p) ≡ None →
@@ -191,9 +219,9 @@ tells_aside act p t such accepted is (inl keeps) h = record {
   parted =
       λ why own same. parted_longer why p.config p.journal (entry_of act p) (aside_silent act such)
       (h.parted why own (sym keeps.parting ∙ (sym (ap (λ (s : Switch). parting_at s 1) is) ∙ same)));
-  stopped =
-      λ same. stopped_longer p.config p.journal (entry_of act p) (aside_silent act such)
-      (h.stopped (sym keeps.parting ∙ (sym (ap (λ (s : Switch). parting_at s 1) is) ∙ same)));
+  aside =
+      λ why others same. until_longer why p.config p.journal (entry_of act p) (aside_silent act such)
+      (h.aside why others (sym keeps.parting ∙ (sym (ap (λ (s : Switch). parting_at s 1) is) ∙ same)));
 }
 tells_aside act p t such accepted is (inr parts) h = record {
   run = is_run_more (empty p.config) p.journal (entry_of act p) h.run accepted;
@@ -204,24 +232,25 @@ tells_aside act p t such accepted is (inr parts) h = record {
       let one : parts.why ≡ why =
       same_Some parts.why why (sym parts.parting ∙ (sym (ap (λ (s : Switch). parting_at s 1) is) ∙ same)) in
       absurd (both_ways (is_its_own why) (sym (ap is_its_own one) ∙ parts.others) own);
-  stopped = λ same. stops_now p (entry_of act p) h parts.read same;
+  aside = λ why others same. parts_now p (entry_of act p) why h parts.read same;
 }
 
 -- the same of a play with another end
 tells_same : (p : Play) (end : Option End) → Tells p → Tells (record p { end = end })
-tells_same p end h = record { run = h.run; here = h.here; parted = h.parted; stopped = h.stopped }
+tells_same p end h = record { run = h.run; here = h.here; parted = h.parted; aside = h.aside }
 
 tells_judged : (cause : Option Refusal) (act : Act) (p : Play) → IsAside act → refusal_of (switch_of p) (entry_of act p) ≡ cause → Tells p →
     Tells (after_judging cause (entry_of act p) p)
 tells_judged None act p such judged h =
     tells_aside act p (step (switch_of p) (entry_of act p)).state such judged (switch_longer act p)
-    (aside_keeps act p.clock (switch_of p) such) h
+    (aside_keeps act p.clock (switch_of p) such (none_left_of p)) h
 tells_judged (Some (refusal.JournalFull cost limit)) act p such judged h = tells_same p _ h
 tells_judged (Some _) act p such judged h = h
 
 keeps_tells : Keeps IsAside Tells
 keeps_tells = by_each IsAside Tells (record {
   works = λ slot. tt;
+  dials = λ slot. refl;
   jobs = λ number. tt;
   takes = tt;
   enters =
@@ -235,7 +264,7 @@ keeps_tells = by_each IsAside Tells (record {
         | true ↦ h
         | false ↦ tells_same p (Some (Runaway 100000)) h
       ];
-  goes_on = λ moment p h. record { run = h.run; here = h.here; parted = h.parted; stopped = h.stopped };
+  goes_on = λ moment p h. record { run = h.run; here = h.here; parted = h.parted; aside = h.aside };
 })
 
 -- ---- its commands
@@ -250,6 +279,7 @@ reason conn parting.AuthRefused config block s t kept made is own =
     (told.0, told.1, λ same. told.2 (same ∙ ap (λ (settings : Settings). settings.password) (sym kept)))
 reason conn parting.EndOfInput config block s t kept made is own = absurd (made.hears is)
 reason conn parting.Stopped config block s t kept made is own = absurd (cc)
+reason conn parting.ChannelLeft config block s t kept made is own = absurd (cc)
 
 tells_command : (block : Text) (p : Play) (t : Switch) → reads_on p ≡ true →
     refusal_of (switch_of p) (entry_of (Command 1 block) p) ≡ None → switch_of (longer_by (Command 1 block) p) ≡ t →
@@ -266,7 +296,7 @@ tells_command block p t reading accepted is made h = record {
     unparted = h.here reading;
     parted = same;
   };
-  stopped = λ same. stops_now p (entry_of (Command 1 block) p) h reading same;
+  aside = λ why others same. parts_now p (entry_of (Command 1 block) p) why h reading same;
 }
 
 -- a command that is refused is so since the journal is full
@@ -309,7 +339,7 @@ tells_unparted p run none = record {
   run = run;
   here = λ reading. none;
   parted = λ why own same. absurd (none-some why (sym none ∙ same));
-  stopped = λ same. absurd (none-some parting.Stopped (sym none ∙ same));
+  aside = λ why others same. absurd (none-some why (sym none ∙ same));
 }
 
 tells_come : (cause : Option Refusal) (config : Configuration) → refusal_of (empty config) (entry_of Arrive (new_play config)) ≡ cause →

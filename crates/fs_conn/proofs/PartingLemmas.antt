@@ -1,6 +1,6 @@
 -- By which entry a connection parted, among others who enter.
 use Rattle.std.proofs.Common.{◌≡◌, ◌≢◌, ℕ, zero, suc, ◌+◌, Bool, true, false, not, if◌then◌else◌, List, [], ◌∷◌, ◌++◌, Option, None, Some}
-use Rattle.std.proofs.Common.{◌⊎◌, inl, inr, refl, sym, ap, ◌∙◌, subst, append_assoc, append-nil}
+use Rattle.std.proofs.Common.{◌⊎◌, inl, inr, option_map, refl, sym, ap, ◌∙◌, subst, append_assoc, append-nil}
 use Rattle.std.specs.Option.{option_and_then}
 use Rattle.std.proofs.lemmas.Bool.{both_ways, ne_eqb, cases_eq}
 use Rattle.std.proofs.lemmas.Option.{none-some, same_Some}
@@ -9,7 +9,7 @@ use Rattle.fs_doc.specs.Reading.{Configuration}
 use Rattle.fs_cmd.specs.Commands.{command_of}
 use Rattle.fs_seats.specs.declared.numbered.Numbered.{Numbered}
 use Rattle.fs_seats.specs.Seats.{no_seats, first_seat}
-use Rattle.fs_seats.specs.Rows.{has_number}
+use Rattle.fs_seats.specs.Rows.{has_number, row_of}
 use Rattle.fs_seats.proofs.RowLemmas.{row_none}
 use Rattle.fs_book.specs.Opened.{NoneNames, Quiet}
 use Rattle.fs_state.specs.declared.conn.Conn.{Conn}
@@ -20,14 +20,15 @@ use Rattle.fs_state.specs.declared.conn.Parting.TheVariants as parting
 use Rattle.fs_state.specs.Switch.{Switch, empty, conn_of, at_moment}
 use Rattle.fs_machine.specs.declared.entry.Entry.{Entry}
 use Rattle.fs_machine.specs.declared.entry.Act.{Act}
-use Rattle.fs_machine.specs.declared.entry.Act.TheVariants.{Arrive, Command, Take, Close, Work, Job, Halt}
+use Rattle.fs_machine.specs.declared.entry.Act.TheVariants.{Arrive, Command, Take, Close, Dialed, Work, Job, Halt}
 use Rattle.fs_machine.specs.declared.entry.Closing.TheVariants.{EndOfInput, Sent, Failed}
 use Rattle.fs_machine.specs.declared.refusal.Refusal.TheVariants as refusal
 use Rattle.fs_machine.specs.Connections.{phase_of, phase_at, conn_changed, conn_changed_from, parted}
 use Rattle.fs_machine.specs.Questions.{parting_of, parting_at, owed_to}
 use Rattle.fs_machine.specs.Step.{reads, is_closed, busy, refusal_of, step}
 use Rattle.fs_machine.specs.Frames.{command_in, commands_of}
-use Rattle.fs_machine.specs.Concerns.{actor_of, is_its_own, KeepsPhase, IsParted, IsOwn, IsOthers, Comes}
+use Rattle.fs_machine.specs.Controlling.{after_letting_go}
+use Rattle.fs_machine.specs.Concerns.{actor_of, is_its_own, KeepsPhase, IsParted, IsOwn, IsOthers, first_phase, Comes}
 use Rattle.fs_machine.specs.Laws.{state_after}
 use Rattle.fs_machine.specs.Owed.{PartsIn}
 use Rattle.fs_machine.specs.Turned.{IsJournal, Answers, names}
@@ -37,28 +38,31 @@ use Rattle.fs_machine.proofs.OrderLemmas.{Orderly, none_refused, not_refused, ru
 use Rattle.fs_machine.proofs.OwedLaws.{run_is_owed}
 use Rattle.fs_machine.proofs.StoppedMoves.{parts_at_end, goes_while_read}
 use Rattle.fs_machine.proofs.FramesLaws.{settings_run}
-use Rattle.fs_machine.proofs.KeepLemmas.{row_changed}
+use Rattle.fs_machine.proofs.KeepLemmas.{Sockets, row_changed, freed_sockets}
+use Rattle.fs_machine.proofs.ControlLemmas.{left_off, behind_conn}
+use Rattle.fs_machine.proofs.LeftLemmas.{NoneLeft, run_none_left, empty_none_left}
 use Rattle.fs_machine.proofs.PartLemmas.{take_keeps, command_parts}
 use Rattle.fs_machine.proofs.ConcernLemmas.{concerns}
 use Rattle.fs_machine.proofs.QuietLemmas.{commands_append, journal_front, come_on, others_of, does}
 use Rattle.fs_conn.specs.Owning.{entry_at}
 use Rattle.fs_conn.specs.Ends.{PartsFor}
-use Rattle.fs_conn.specs.Talks.{PartedIn}
-use Rattle.fs_conn.specs.Partings.{PartedAt, PartedBy, StoppedBy}
+use Rattle.fs_conn.specs.Talks.{PartedIn, StoppedIn}
+use Rattle.fs_conn.specs.Partings.{PartedAt, PartedBy, StoppedBy, MadeToStop}
 use Rattle.fs_conn.proofs.PartLemmas.{reason}
 use Rattle.fs_conn.proofs.ArriveLemmas.{open_come}
 
 -- ---- one that is there parts
 
 parts_where_read : (conn : ℕ) (why : Parting) (s : Switch) → reads (phase_at s conn) ≡ true →
-    parting_at (conn_changed (parted why) conn s) conn ≡ Some why
+    (c : Conn) × (conn_of (conn_changed (parted why) conn s) conn ≡ Some (parted why c))
 parts_where_read conn why s reading = by (conn_of s conn) refl
   where
-    by : (found : Option Conn) → conn_of s conn ≡ found → parting_at (conn_changed_from (parted why) conn found s) conn ≡ Some why
+    by : (found : Option Conn) → conn_of s conn ≡ found →
+        (c : Conn) × (conn_of (conn_changed_from (parted why) conn found s) conn ≡ Some (parted why c))
     by None is =
         let closed : reads phase.Closed ≡ true = ap (λ (found : Option Conn). reads (phase_of found)) (sym is) ∙ reading in
         absurd (cc closed)
-    by (Some c) is = ap (option_and_then parting_of) (row_changed s.conns conn c (parted why c) is)
+    by (Some c) is = (c, row_changed s.conns conn c (parted why c) is)
 
 -- a number is the connection's or it is not
 is_its : (found : Option ℕ) (conn : ℕ) → (found ≡ Some conn) ⊎ (found ≡ Some conn → ⊥)
@@ -119,7 +123,18 @@ reads_input conn moment closer s same none =
 input_parts : (conn moment : ℕ) (s : Switch) → reads (phase_at s conn) ≡ true →
     parting_at (step s (record { moment = moment; act = Close conn EndOfInput })).state conn ≡ Some parting.EndOfInput
 unfolding step
-input_parts conn moment s reading = parts_where_read conn parting.EndOfInput (at_moment moment s) reading
+input_parts conn moment s reading =
+    let free : Switch = after_letting_go conn (at_moment moment s) in
+    let silent : Switch = conn_changed (parted parting.EndOfInput) conn free in
+    let same : conn_of free conn ≡ conn_of s conn =
+    ap (λ (x : Sockets). row_of x.conns conn) (freed_sockets conn (at_moment moment s)) in
+    let there = parts_where_read conn parting.EndOfInput free (ap (λ (found : Option Conn). reads (phase_of found)) same ∙ reading) in
+    ap (option_and_then parting_of) (behind_conn silent conn ∙ ap (option_map (left_off silent conn)) there.1)
+
+-- one that comes reads commands
+first_reads : (act : Act) → reads (first_phase act) ≡ true
+first_reads Arrive = refl
+first_reads _ = refl
 
 module _ (config : Configuration) (conn : ℕ) where
   abbrev at : List Entry → Switch
@@ -127,6 +142,9 @@ module _ (config : Configuration) (conn : ℕ) where
 
   orderly_at : (log : List Entry) → IsJournal config log → Orderly (at log)
   orderly_at log journal = run_orderly (empty config) log (empty_orderly config journal.within.settings.journal.1) journal.run
+
+  settled_at : (log : List Entry) → NoneLeft (at log)
+  settled_at log = run_none_left (empty config) log (empty_none_left config)
 
   -- one that has parted is ending
   ending : (log : List Entry) (why : Parting) → IsJournal config log → parting_at (at log) conn ≡ Some why →
@@ -188,7 +206,7 @@ module _ (config : Configuration) (conn : ℕ) where
       (reads_commands conn moment giver block (at front) (same_Some giver conn named)
       (accepted front (entry_at moment (Command giver block)) journal)))
   over_own front moment (Take taker) journal come still named =
-      over_keeps front (entry_at moment (Take taker)) still refl (take_keeps conn moment taker (at front))
+      over_keeps front (entry_at moment (Take taker)) still refl (take_keeps conn moment taker (at front) (settled_at front))
   over_own front moment (Close closer EndOfInput) journal come still named =
       absurd (both_ways (reads (phase_at (at front) conn)) still
       (reads_input conn moment closer (at front) (same_Some closer conn named)
@@ -198,6 +216,7 @@ module _ (config : Configuration) (conn : ℕ) where
   over_own front moment (Close closer Failed) journal come still named =
       over_shut front (entry_at moment (Close closer Failed)) journal come refl named refl
   over_own front moment (Work slot) journal come still named = absurd (none-some conn named)
+  over_own front moment (Dialed slot linked) journal come still named = absurd (none-some conn named)
   over_own front moment (Job number) journal come still named = absurd (none-some conn named)
   over_own front moment Halt journal come still named = absurd (none-some conn named)
 
@@ -359,7 +378,7 @@ module _ (config : Configuration) (conn : ℕ) where
   parts_own front moment (Command giver block) why journal come none is named =
       parts_command front moment giver block why journal none is (same_Some giver conn named)
   parts_own front moment (Take taker) why journal come none is named =
-      absurd (parts_not front (entry_at moment (Take taker)) why none is (take_keeps conn moment taker (at front)))
+      absurd (parts_not front (entry_at moment (Take taker)) why none is (take_keeps conn moment taker (at front) (settled_at front)))
   parts_own front moment (Close closer EndOfInput) why journal come none is named =
       parts_input front moment closer why journal is (same_Some closer conn named)
   parts_own front moment (Close closer Sent) why journal come none is named =
@@ -367,6 +386,7 @@ module _ (config : Configuration) (conn : ℕ) where
   parts_own front moment (Close closer Failed) why journal come none is named =
       absurd (parts_shut front (entry_at moment (Close closer Failed)) why journal come named refl is)
   parts_own front moment (Work slot) why journal come none is named = absurd (none-some conn named)
+  parts_own front moment (Dialed slot linked) why journal come none is named = absurd (none-some conn named)
   parts_own front moment (Job number) why journal come none is named = absurd (none-some conn named)
   parts_own front moment Halt why journal come none is named = absurd (none-some conn named)
 
@@ -386,12 +406,13 @@ module _ (config : Configuration) (conn : ℕ) where
             absurd (both_ways (is_its_own why) (sym (ap is_its_own same) ∙ parts.others) own);
       }
 
-  -- one that comes reads commands
+  -- so it does not part by that
   parts_come : (front : List Entry) (entry : Entry) (why : Parting) → IsJournal config (front ++ entry ∷ []) →
       parting_at (at (front ++ entry ∷ [])) conn ≡ Some why → Comes conn (at front) entry → ⊥
   parts_come front entry why journal is come =
       both_ways (reads (phase_at (at (front ++ entry ∷ [])) conn)) (ap reads (ending (front ++ entry ∷ []) why journal is))
-      (ap (λ (s : Switch). reads (phase_at s conn)) (run_more (empty config) front entry) ∙ ap reads come.after)
+      (ap (λ (s : Switch). reads (phase_at s conn)) (run_more (empty config) front entry)
+      ∙ (ap reads come.after ∙ first_reads entry.act))
 
   parts : (front : List Entry) (entry : Entry) (why : Parting) → IsJournal config (front ++ entry ∷ []) →
       parting_at (at front) conn ≡ None → parting_at (at (front ++ entry ∷ [])) conn ≡ Some why → Parts front entry why
@@ -432,7 +453,7 @@ module _ (config : Configuration) (conn : ℕ) where
       let made = (parts p.before p.entry why (journal_at log why journal p) p.unparted p.parted).command own other in
       record { at = p; block = made.0; gives = made.1; is = made.2 }
 
-  pub stopped_by_end : (log : List Entry) → IsJournal config log → PartedAt config conn log parting.Stopped → StoppedBy config conn log
+  stopped_by_end : (log : List Entry) → IsJournal config log → PartedAt config conn log parting.Stopped → StoppedBy config conn log
   stopped_by_end log journal p =
       let front = journal_at log parting.Stopped journal p in
       let made = parts p.before p.entry parting.Stopped front p.unparted p.parted in record {
@@ -447,6 +468,11 @@ module _ (config : Configuration) (conn : ℕ) where
       subst (λ entries. PartedAt config conn entries why) p.front.1
       (parted_in p.before p.front.0 why (subst (IsJournal config) (sym p.front.1) journal) p.parted)
 
+  -- it was made to stop
+  pub made_to_stop : (log : List Entry) → IsJournal config log → StoppedIn config conn log → MadeToStop config conn log
+  made_to_stop log journal (inl p) = inl (stopped_by_end log journal (at_front log parting.Stopped journal p))
+  made_to_stop log journal (inr p) = inr (at_front log parting.ChannelLeft journal p)
+
   -- ---- a journal that goes on without naming it
 
   no_command : (act : Act) → (actor_of act ≡ Some conn → ⊥) → command_in conn act ≡ []
@@ -456,6 +482,7 @@ module _ (config : Configuration) (conn : ℕ) where
   no_command (Take taker) apart = refl
   no_command (Close closer how) apart = refl
   no_command (Work slot) apart = refl
+  no_command (Dialed slot linked) apart = refl
   no_command (Job number) apart = refl
   no_command Halt apart = refl
 
@@ -473,34 +500,31 @@ module _ (config : Configuration) (conn : ℕ) where
   split_up log log' before behind entry quiet split =
       sym quiet.split ∙ (ap (λ entries. entries ++ quiet.more) split ∙ append_assoc before (entry ∷ behind) quiet.more)
 
+  abbrev at_up : (log log' : List Entry) (why : Parting) → Quiet names conn log log' → PartedAt config conn log why →
+      PartedAt config conn log' why
+  at_up log log' why quiet p = record {
+    before = p.before;
+    entry = p.entry;
+    behind = p.behind ++ quiet.more;
+    split = split_up log log' p.before p.behind p.entry quiet p.split;
+    last = last_up p.behind quiet.more p.last quiet.none;
+    unparted = p.unparted;
+    parted = p.parted;
+  }
+
   pub by_up : (log log' : List Entry) (why : Parting) → Quiet names conn log log' → PartedBy config conn log why →
       PartedBy config conn log' why
   by_up log log' why quiet p = record {
-    at = record {
-      before = p.at.before;
-      entry = p.at.entry;
-      behind = p.at.behind ++ quiet.more;
-      split = split_up log log' p.at.before p.at.behind p.at.entry quiet p.at.split;
-      last = last_up p.at.behind quiet.more p.at.last quiet.none;
-      unparted = p.at.unparted;
-      parted = p.at.parted;
-    };
+    at = at_up log log' why quiet p.at;
     block = p.block;
     gives = p.gives;
     is = p.is;
   }
 
-  pub stopped_up : (log log' : List Entry) → Quiet names conn log log' → StoppedBy config conn log → StoppedBy config conn log'
-  stopped_up log log' quiet p = record {
-    at = record {
-      before = p.at.before;
-      entry = p.at.entry;
-      behind = p.at.behind ++ quiet.more;
-      split = split_up log log' p.at.before p.at.behind p.at.entry quiet p.at.split;
-      last = last_up p.at.behind quiet.more p.at.last quiet.none;
-      unparted = p.at.unparted;
-      parted = p.at.parted;
-    };
+  pub stop_up : (log log' : List Entry) → Quiet names conn log log' → MadeToStop config conn log → MadeToStop config conn log'
+  stop_up log log' quiet (inl p) = inl (record {
+    at = at_up log log' parting.Stopped quiet p.at;
     unstopped = p.unstopped;
     stopped = p.stopped;
-  }
+  })
+  stop_up log log' quiet (inr p) = inr (at_up log log' parting.ChannelLeft quiet p)

@@ -6,7 +6,7 @@ use Rattle.fs_machine.specs.declared.due.DueActor.{DueActor}
 use Rattle.fs_machine.specs.declared.due.DueActor.TheVariants as due
 use Rattle.fs_machine.specs.declared.entry.Entry.{Entry}
 use Rattle.fs_machine.specs.declared.entry.Act.{Act}
-use Rattle.fs_machine.specs.declared.entry.Act.TheVariants.{Command, Take, Close, Work, Job}
+use Rattle.fs_machine.specs.declared.entry.Act.TheVariants.{Command, Take, Close, Dialed, Work, Job}
 use Rattle.fs_machine.specs.declared.entry.Closing.TheVariants.{EndOfInput, Sent}
 use Rattle.fs_machine.specs.declared.refusal.Refusal.{Refusal}
 use Rattle.fs_machine.specs.declared.refusal.Refusal.TheVariants as refusal
@@ -100,6 +100,7 @@ goes_ended end = record {
 
 goes_worked_by : (actor : DueActor) → Goes (after_due_work actor)
 goes_worked_by (due.Slot slot) = goes_entered (Work slot)
+goes_worked_by (due.Dial slot) = goes_entered (Dialed slot false)
 goes_worked_by (due.Job job) = goes_entered (Job job)
 goes_worked_by (due.Later moment) = record { over = λ p over. refl; begins = begins_self }
 goes_worked_by due.Never = record { over = λ p over. refl; begins = begins_self }
@@ -112,6 +113,7 @@ goes_worked_once = record {
 
 goes_stopped_by : (actor : DueActor) → Goes (with_runaway_end_by actor)
 goes_stopped_by (due.Slot slot) = goes_ended (Runaway 100000)
+goes_stopped_by (due.Dial slot) = goes_ended (Runaway 100000)
 goes_stopped_by (due.Job job) = goes_ended (Runaway 100000)
 goes_stopped_by (due.Later moment) = record { over = λ p over. refl; begins = begins_self }
 goes_stopped_by due.Never = record { over = λ p over. refl; begins = begins_self }

@@ -4,7 +4,7 @@ use Rattle.std.proofs.Common.{Ok, Err, refl, sym, ap, ◌∙◌, subst, arith}
 use Rattle.fs_machine.specs.declared.due.DueActor.{DueActor}
 use Rattle.fs_machine.specs.declared.due.DueActor.TheVariants as due
 use Rattle.fs_machine.specs.declared.entry.Act.{Act}
-use Rattle.fs_machine.specs.declared.entry.Act.TheVariants.{Work, Job}
+use Rattle.fs_machine.specs.declared.entry.Act.TheVariants.{Dialed, Work, Job}
 use Rattle.fs_machine.specs.declared.reply.Reply.{Reply}
 use Rattle.fs_machine.specs.Questions.{owes}
 use Rattle.fs_machine.specs.Frames.{handed_in}
@@ -25,24 +25,28 @@ use Rattle.fs_conn.proofs.RoundLemmas.{repeated_none, repeated_more, round_stops
 
 worked_act : (actor : DueActor) (act : Act) (p : Play) → act_of actor ≡ Some act → after_due_work actor p ≡ after_trying_act act p
 worked_act (due.Slot slot) act p is = let same : Work slot ≡ act = cc in ap (λ a. after_trying_act a p) same
+worked_act (due.Dial slot) act p is = let same : Dialed slot false ≡ act = cc in ap (λ a. after_trying_act a p) same
 worked_act (due.Job job) act p is = let same : Job job ≡ act = cc in ap (λ a. after_trying_act a p) same
 worked_act (due.Later moment) act p is = absurd (cc)
 worked_act due.Never act p is = absurd (cc)
 
 pub worked_none : (actor : DueActor) (p : Play) → act_of actor ≡ None → after_due_work actor p ≡ p
 worked_none (due.Slot slot) p is = absurd (cc)
+worked_none (due.Dial slot) p is = absurd (cc)
 worked_none (due.Job job) p is = absurd (cc)
 worked_none (due.Later moment) p is = refl
 worked_none due.Never p is = refl
 
 stopped_none : (actor : DueActor) (p : Play) → act_of actor ≡ None → with_runaway_end_by actor p ≡ p
 stopped_none (due.Slot slot) p is = absurd (cc)
+stopped_none (due.Dial slot) p is = absurd (cc)
 stopped_none (due.Job job) p is = absurd (cc)
 stopped_none (due.Later moment) p is = refl
 stopped_none due.Never p is = refl
 
 stopped_act : (actor : DueActor) (p : Play) → is_some (act_of actor) ≡ true → with_runaway_end_by actor p ≡ with_end (Runaway 100000) p
 stopped_act (due.Slot slot) p is = refl
+stopped_act (due.Dial slot) p is = refl
 stopped_act (due.Job job) p is = refl
 stopped_act (due.Later moment) p is = absurd (cc)
 stopped_act due.Never p is = absurd (cc)
@@ -50,6 +54,7 @@ stopped_act due.Never p is = absurd (cc)
 -- one that has something to do hands out no frame
 hands_none : (actor : DueActor) (act : Act) (p : Play) → act_of actor ≡ Some act → handed_in 1 act (switch_of p) ≡ []
 hands_none (due.Slot slot) act p is = let same : Work slot ≡ act = cc in ap (λ a. handed_in 1 a (switch_of p)) (sym same)
+hands_none (due.Dial slot) act p is = let same : Dialed slot false ≡ act = cc in ap (λ a. handed_in 1 a (switch_of p)) (sym same)
 hands_none (due.Job job) act p is = let same : Job job ≡ act = cc in ap (λ a. handed_in 1 a (switch_of p)) (sym same)
 hands_none (due.Later moment) act p is = absurd (cc)
 hands_none due.Never act p is = absurd (cc)
@@ -135,6 +140,7 @@ never_stuck now sound owed idle never = by (next_actor now) refl
   where
     by : (actor : DueActor) → next_actor now ≡ actor → ⊥
     by (due.Slot slot) is = let none : act_of (due.Slot slot) ≡ None = ap act_of (sym is) ∙ idle in cc
+    by (due.Dial slot) is = let none : act_of (due.Dial slot) ≡ None = ap act_of (sym is) ∙ idle in cc
     by (due.Job job) is = let none : act_of (due.Job job) ≡ None = ap act_of (sym is) ∙ idle in cc
     by (due.Later moment) is = never moment is
     by due.Never is = owed_laws.goes_on (switch_of now) 1 now.clock sound owed is

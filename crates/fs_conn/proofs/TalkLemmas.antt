@@ -54,7 +54,8 @@ pub parted_end_up : (config : Configuration) (conn : ℕ) (log log' : List Entry
     PartedEnd config conn log end → PartedEnd config conn log' end
 parted_end_up config conn log log' ends.Exit pre p = parted_up config conn log log' _ pre p
 parted_end_up config conn log log' ends.AuthRefused pre p = parted_up config conn log log' _ pre p
-parted_end_up config conn log log' ends.Stopped pre p = parted_up config conn log log' _ pre p
+parted_end_up config conn log log' ends.Stopped pre (inl p) = inl (parted_up config conn log log' _ pre p)
+parted_end_up config conn log log' ends.Stopped pre (inr p) = inr (parted_up config conn log log' _ pre p)
 parted_end_up config conn log log' _ pre p = absurd p
 
 pub full_up : (config : Configuration) (log log' : List Entry) (cost limit : ℕ) → IsPrefix log log' → FullIn config log cost limit →
@@ -486,7 +487,10 @@ module _ (may : ℕ → Type 0) (config : Configuration) (conn : ℕ) where
           subst (λ (x : End). PartedEnd config conn log x) same (record { before = log; front = prefix_self log; parted = at })
       by (Some partings.Stopped) at e =
           let same : ends.Stopped ≡ end = cc in
-          subst (λ (x : End). PartedEnd config conn log x) same (record { before = log; front = prefix_self log; parted = at })
+          subst (λ (x : End). PartedEnd config conn log x) same (inl (record { before = log; front = prefix_self log; parted = at }))
+      by (Some partings.ChannelLeft) at e =
+          let same : ends.Stopped ≡ end = cc in
+          subst (λ (x : End). PartedEnd config conn log x) same (inr (record { before = log; front = prefix_self log; parted = at }))
       by (Some partings.EndOfInput) at e = absurd (cc)
 
   pub hangs_closed : (from now : Point) (rest : List ℕ) (end : End) (result : Result End Stop) →

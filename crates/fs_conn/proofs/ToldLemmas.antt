@@ -34,7 +34,7 @@ use Rattle.fs_conn.specs.Owning.{OwnsConn, entry_at, Entered}
 use Rattle.fs_conn.specs.Talks.{Point, point, bytes_given, FrontWritten, PartedEnd, IfTried, LacksBlock, tried_of}
 use Rattle.fs_conn.specs.Talks.{Base, Holds, HasStopped, OverCause, Over, Rounds, Handles, Departed, Hung, ends_sent, EndWrote, EndCause}
 use Rattle.fs_conn.specs.Talks.{Told, Talks}
-use Rattle.fs_conn.proofs.PartingLemmas.{at_front, parted_by_command, stopped_by_end, by_up, stopped_up}
+use Rattle.fs_conn.proofs.PartingLemmas.{at_front, parted_by_command, made_to_stop, by_up, stop_up}
 use Rattle.fs_conn.proofs.TalkLemmas.{or_none, full_up, front_longer, holds_quiet, stops_holds, idle_before, gains_push}
 
 -- bytes that have no block are all behind their blocks
@@ -225,8 +225,7 @@ module _ (may : ℕ → Type 0) (config : Configuration) (conn : ℕ) where
       parted_by_command config conn now.log way.Exit run refl (λ same. cc) (at_front config conn now.log way.Exit run cause)
   over_cause from now rest ends.AuthRefused run are cause =
       parted_by_command config conn now.log way.AuthRefused run refl (λ same. cc) (at_front config conn now.log way.AuthRefused run cause)
-  over_cause from now rest ends.Stopped run are cause =
-      stopped_by_end config conn now.log run (at_front config conn now.log way.Stopped run cause)
+  over_cause from now rest ends.Stopped run are cause = made_to_stop config conn now.log run cause
   over_cause from now rest ends.Eof run are cause = cause
   over_cause from now rest ends.ReadFault run are cause = cause
   over_cause from now rest (ends.TooLong len) run are cause = (cause.0, behind (commands_of conn now.log) rest _ are cause.0 cause.1)
@@ -326,7 +325,7 @@ cause_up : (end : End) (config : Configuration) (conn : ℕ) (log log' : List En
     → EndCause end config conn log' in0 in1 taken others
 cause_up ends.Exit config conn log log' in0 in1 taken others quiet cause = by_up config conn log log' way.Exit quiet cause
 cause_up ends.AuthRefused config conn log log' in0 in1 taken others quiet cause = by_up config conn log log' way.AuthRefused quiet cause
-cause_up ends.Stopped config conn log log' in0 in1 taken others quiet cause = stopped_up config conn log log' quiet cause
+cause_up ends.Stopped config conn log log' in0 in1 taken others quiet cause = stop_up config conn log log' quiet cause
 cause_up ends.Eof config conn log log' in0 in1 taken others quiet cause = cause
 cause_up ends.ReadFault config conn log log' in0 in1 taken others quiet cause = cause
 cause_up (ends.TooLong len) config conn log log' in0 in1 taken others quiet cause = cause

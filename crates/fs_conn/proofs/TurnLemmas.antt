@@ -87,6 +87,7 @@ reads_in Ending None parts hears none = absurd (parts refl)
 reads_in Ending (Some way.Exit) parts hears none = absurd (cc)
 reads_in Ending (Some way.AuthRefused) parts hears none = absurd (cc)
 reads_in Ending (Some way.Stopped) parts hears none = absurd (cc)
+reads_in Ending (Some way.ChannelLeft) parts hears none = absurd (cc)
 reads_in Ending (Some way.EndOfInput) parts hears none = absurd (hears refl)
 reads_in Closed parting parts hears none = absurd parts
 
@@ -353,6 +354,7 @@ farewell_told None end is = absurd (cc)
 farewell_told (Some way.Exit) end is = let same : Exit ≡ end = cc in subst IsFarewell same (refl, λ eof. cc)
 farewell_told (Some way.AuthRefused) end is = let same : AuthRefused ≡ end = cc in subst IsFarewell same (refl, λ eof. cc)
 farewell_told (Some way.Stopped) end is = let same : Stopped ≡ end = cc in subst IsFarewell same (refl, λ eof. cc)
+farewell_told (Some way.ChannelLeft) end is = let same : Stopped ≡ end = cc in subst IsFarewell same (refl, λ eof. cc)
 farewell_told (Some way.EndOfInput) end is = absurd (cc)
 
 -- the connection reads no further command

@@ -1,5 +1,5 @@
 -- What the end of a play shows.
-use Rattle.std.specs.Prelude.{◌≡◌, ◌≢◌, ℕ, Bool, true, false, List, [], ◌∷◌, ◌++◌, length, Option, None, Some, is_some}
+use Rattle.std.specs.Prelude.{◌≡◌, ◌≢◌, ◌⊎◌, ℕ, Bool, true, false, List, [], ◌∷◌, ◌++◌, length, Option, None, Some, is_some}
 use Rattle.std.specs.List.{AllByRecursion}
 use Rattle.fs_doc.specs.Limits.{IsWithin}
 use Rattle.fs_doc.specs.Reading.{Configuration}
@@ -13,7 +13,7 @@ use Rattle.fs_state.specs.declared.conn.Parting.TheVariants as parting
 use Rattle.fs_state.specs.Switch.{Switch, empty, is_full}
 use Rattle.fs_machine.specs.declared.entry.Entry.{Entry}
 use Rattle.fs_machine.specs.declared.entry.Act.{Act}
-use Rattle.fs_machine.specs.declared.entry.Act.TheVariants.{Command, Work, Job}
+use Rattle.fs_machine.specs.declared.entry.Act.TheVariants.{Command, Dialed, Work, Job}
 use Rattle.fs_machine.specs.Questions.{parting_at}
 use Rattle.fs_machine.specs.Runs.{run_from}
 use Rattle.fs_machine.specs.Frames.{commands_of}
@@ -30,6 +30,7 @@ PartsFor parting.Exit password read = read ≡ command.Exit
 PartsFor parting.AuthRefused password read = (given : Text) × (read ≡ command.Auth given) × (given ≢ password)
 PartsFor parting.EndOfInput password read = ⊥
 PartsFor parting.Stopped password read = ⊥
+PartsFor parting.ChannelLeft password read = ⊥
 
 -- the entry of a command of the connection
 abbrev pub command_at : ℕ → Text → Entry
@@ -58,19 +59,27 @@ pub record EndsFor (why : Parting) (password : Text) (blocks : List Text) : Type
   pub split : blocks ≡ earlier ++ block ∷ []
   pub is : PartsFor why password (command_of block)
 
--- ---- by the end of the switch
+-- ---- not by its own doing
 
--- by an entry of a journal the switch came to its end, and by that the connection parted, which gives no command behind it
-pub record IsStoppedBy (config : Configuration) (journal : List Entry) : Type 0 where
+-- by an entry of a journal the connection parted for this, and it gives no command behind that
+pub record IsPartedAside (why : Parting) (config : Configuration) (journal : List Entry) : Type 0 where
   pub before : List Entry
   pub entry : Entry
   pub behind : List Entry
   pub split : journal ≡ before ++ entry ∷ behind
   pub last : commands_of 1 behind ≡ []
-  pub unstopped : (run_from (empty config) before).stopping ≡ None
-  pub stopped : is_some (run_from (empty config) (before ++ entry ∷ [])).stopping ≡ true
   pub unparted : parting_at (run_from (empty config) before) 1 ≡ None
-  pub parted : parting_at (run_from (empty config) (before ++ entry ∷ [])) 1 ≡ Some parting.Stopped
+  pub parted : parting_at (run_from (empty config) (before ++ entry ∷ [])) 1 ≡ Some why
+
+-- by that entry the switch came to its end, for which it parted
+pub record IsStoppedBy (config : Configuration) (journal : List Entry) : Type 0 where
+  pub at : IsPartedAside parting.Stopped config journal
+  pub unstopped : (run_from (empty config) at.before).stopping ≡ None
+  pub stopped : is_some (run_from (empty config) (at.before ++ at.entry ∷ [])).stopping ≡ true
+
+-- it is made to stop: by the end of the switch, or since the channel that it controls has left it
+abbrev pub IsMadeToStop : Configuration → List Entry → Type 0
+IsMadeToStop config journal = IsStoppedBy config journal ⊎ IsPartedAside parting.ChannelLeft config journal
 
 -- ---- by its input
 
@@ -99,6 +108,7 @@ pub record IsFullAt (cost limit : ℕ) (s : Switch) : Type 0 where
 -- what is done by whoever has something to do
 abbrev pub IsWork : Act → Type 0
 IsWork (Work slot) = Unit {0}
+IsWork (Dialed slot linked) = Unit {0}
 IsWork (Job number) = Unit {0}
 IsWork _ = ⊥
 
@@ -127,7 +137,7 @@ pub record RanAway (count : ℕ) (p : Play) : Type 0 where
 abbrev pub HasCause : End → Play → Option Fault → Bool → Type 0
 HasCause ends.Exit p fault read_failed = IsPartedBy parting.Exit p.config p.journal
 HasCause ends.AuthRefused p fault read_failed = IsPartedBy parting.AuthRefused p.config p.journal
-HasCause ends.Stopped p fault read_failed = IsStoppedBy p.config p.journal
+HasCause ends.Stopped p fault read_failed = IsMadeToStop p.config p.journal
 HasCause ends.Eof p fault read_failed = (fault ≡ None) × (read_failed ≡ false)
 HasCause ends.ReadFault p fault read_failed = (fault ≡ None) × (read_failed ≡ true)
 HasCause ends.WriteFault p fault read_failed = ⊥

@@ -1,5 +1,5 @@
 -- By which entry of a journal a connection parted, among others who enter.
-use Rattle.std.specs.Prelude.{◌≡◌, ℕ, true, List, [], ◌∷◌, ◌++◌, None, Some, is_some}
+use Rattle.std.specs.Prelude.{◌≡◌, ◌⊎◌, ℕ, true, List, [], ◌∷◌, ◌++◌, None, Some, is_some}
 use Rattle.fs_doc.specs.Reading.{Configuration}
 use Rattle.fs_text.specs.Texts.{Text}
 use Rattle.fs_cmd.specs.Commands.{command_of}
@@ -34,3 +34,7 @@ pub record StoppedBy (config : Configuration) (conn : ℕ) (log : List Entry) : 
   pub at : PartedAt config conn log parting.Stopped
   pub unstopped : (state_after config at.before).stopping ≡ None
   pub stopped : is_some (state_after config (at.before ++ at.entry ∷ [])).stopping ≡ true
+
+-- it was made to stop: by the end of the switch, or since the channel that it controls had left it
+abbrev pub MadeToStop : Configuration → ℕ → List Entry → Type 0
+MadeToStop config conn log = StoppedBy config conn log ⊎ PartedAt config conn log parting.ChannelLeft

@@ -1,5 +1,5 @@
 -- What a played connection is: its journal, what is written to it, and how it ends.
-use Rattle.std.specs.Prelude.{ℕ, zero, suc, ◌^◌, Bool, List, [], ◌∷◌, ◌++◌, length, Option, None, Some, is_some, not, ◌&&◌, if◌then◌else◌}
+use Rattle.std.specs.Prelude.{ℕ, zero, suc, ◌^◌, Bool, false, List, [], ◌∷◌, ◌++◌, length, Option, None, Some, is_some, not, ◌&&◌, if◌then◌else◌}
 use Rattle.std.specs.List.{concat}
 use Rattle.fs_doc.specs.Reading.{Configuration}
 use Rattle.fs_frame.specs.Block.{fault_of}
@@ -13,7 +13,7 @@ use Rattle.fs_machine.specs.declared.due.DueActor.{DueActor}
 use Rattle.fs_machine.specs.declared.due.DueActor.TheVariants as actor
 use Rattle.fs_machine.specs.declared.entry.Entry.{Entry}
 use Rattle.fs_machine.specs.declared.entry.Act.{Act}
-use Rattle.fs_machine.specs.declared.entry.Act.TheVariants.{Arrive, Command, Take, Close, Work, Job}
+use Rattle.fs_machine.specs.declared.entry.Act.TheVariants.{Arrive, Command, Take, Close, Dialed, Work, Job}
 use Rattle.fs_machine.specs.declared.entry.Closing.TheVariants.{EndOfInput, Sent}
 use Rattle.fs_machine.specs.declared.refusal.Refusal.{Refusal}
 use Rattle.fs_machine.specs.declared.refusal.Refusal.TheVariants as refusal
@@ -94,9 +94,10 @@ unfoldable pub repeated : {A : Type 0} → ℕ → (A → A) → A → A
 repeated zero act a = a
 repeated (suc n) act a = repeated n act (act a)
 
--- the least slot, or else the least job, that has something to do does it
+-- the least slot, or else the least job, that has something to do does it; nobody can be dialed
 abbrev pub after_due_work_as : Judge → DueActor → Play → Play
 after_due_work_as judge (actor.Slot slot) p = after_trying_act_as judge (Work slot) p
+after_due_work_as judge (actor.Dial slot) p = after_trying_act_as judge (Dialed slot false) p
 after_due_work_as judge (actor.Job job) p = after_trying_act_as judge (Job job) p
 after_due_work_as judge (actor.Later moment) p = p
 after_due_work_as judge actor.Never p = p
@@ -112,6 +113,7 @@ after_due_step_as judge p = after_due_work_as judge (next_actor p) p
 -- a play that has still something to do has run away
 abbrev pub with_runaway_end_by : DueActor → Play → Play
 with_runaway_end_by (actor.Slot slot) p = with_end (Runaway 100000) p
+with_runaway_end_by (actor.Dial slot) p = with_end (Runaway 100000) p
 with_runaway_end_by (actor.Job job) p = with_end (Runaway 100000) p
 with_runaway_end_by (actor.Later moment) p = p
 with_runaway_end_by actor.Never p = p
@@ -197,6 +199,7 @@ end_by (Some parting.Exit) = Some Exit
 end_by (Some parting.AuthRefused) = Some AuthRefused
 end_by (Some parting.EndOfInput) = None
 end_by (Some parting.Stopped) = Some Stopped
+end_by (Some parting.ChannelLeft) = Some Stopped
 
 -- how a connection ends that reads no further command, or none where it reads on
 abbrev pub farewell : Play → Option End

@@ -10,7 +10,7 @@ use Rattle.fs_machine.specs.declared.due.DueActor.{DueActor}
 use Rattle.fs_machine.specs.declared.due.DueActor.TheVariants as actor
 use Rattle.fs_machine.specs.declared.entry.Entry.{Entry}
 use Rattle.fs_machine.specs.declared.entry.Act.{Act}
-use Rattle.fs_machine.specs.declared.entry.Act.TheVariants.{Work, Job}
+use Rattle.fs_machine.specs.declared.entry.Act.TheVariants.{Dialed, Work, Job}
 use Rattle.fs_machine.specs.declared.reply.Reply.{Reply}
 use Rattle.fs_machine.specs.Step.{step, refusal_of}
 use Rattle.fs_machine.specs.Frames.{handed_in}
@@ -95,6 +95,7 @@ Enters act old new (Err WriteFault) = ⊥
 -- what is to be entered for one that has something to do
 abbrev pub act_of : DueActor → Option Act
 act_of (actor.Slot slot) = Some (Work slot)
+act_of (actor.Dial slot) = Some (Dialed slot false)
 act_of (actor.Job job) = Some (Job job)
 act_of (actor.Later moment) = None
 act_of actor.Never = None

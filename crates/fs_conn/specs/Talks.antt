@@ -37,7 +37,7 @@ use Rattle.fs_conn.specs.declared.round.Round.TheVariants as rounds
 use Rattle.fs_conn.specs.declared.round.Piece.{Piece}
 use Rattle.fs_conn.specs.declared.round.Piece.TheVariants as pieces
 use Rattle.fs_conn.specs.Ends.{IsFullAt}
-use Rattle.fs_conn.specs.Partings.{PartedBy, StoppedBy}
+use Rattle.fs_conn.specs.Partings.{PartedBy, MadeToStop}
 use Rattle.fs_conn.specs.Owning.{Entered}
 
 -- where a conversation stands: the journal as far as its pass has seen it, the pass's places, and the two sides of its link
@@ -86,11 +86,15 @@ pub record FullIn (config : Configuration) (log : List Entry) (cost limit : ℕ)
   pub front : IsPrefix before log
   pub full : IsFullAt cost limit (state_after config before)
 
+-- it parted for the end of the switch, or since its channel had left it
+abbrev pub StoppedIn : Configuration → ℕ → List Entry → Type 0
+StoppedIn config conn log = PartedIn config conn log parting.Stopped ⊎ PartedIn config conn log parting.ChannelLeft
+
 -- an end that comes where the connection was made to read no further command
 abbrev pub PartedEnd : Configuration → ℕ → List Entry → End → Type 0
 PartedEnd config conn log ends.Exit = PartedIn config conn log parting.Exit
 PartedEnd config conn log ends.AuthRefused = PartedIn config conn log parting.AuthRefused
-PartedEnd config conn log ends.Stopped = PartedIn config conn log parting.Stopped
+PartedEnd config conn log ends.Stopped = StoppedIn config conn log
 PartedEnd config conn log _ = ⊥
 
 -- an end that comes before the connection is closed
@@ -198,7 +202,7 @@ module _ (may : ℕ → Type 0) (config : Configuration) (conn : ℕ) where
   abbrev pub OverCause : End → Point → Point → List ℕ → Type 0
   OverCause ends.Exit from now rest = PartedIn config conn now.log parting.Exit
   OverCause ends.AuthRefused from now rest = PartedIn config conn now.log parting.AuthRefused
-  OverCause ends.Stopped from now rest = PartedIn config conn now.log parting.Stopped
+  OverCause ends.Stopped from now rest = StoppedIn config conn now.log
   OverCause ends.Eof from now rest = (blocks_of rest ≡ []) × IsAtEnd now.input.left
   OverCause ends.ReadFault from now rest = (blocks_of rest ≡ []) × (now.input.faults ≡ raised from.input.faults)
   OverCause (ends.TooLong len) from now rest = (blocks_of rest ≡ []) × (fault_of rest ≡ Some (faults.TooLong len))
@@ -260,7 +264,7 @@ EndWrote _ out0 out1 bytes = FrontWritten out0 out1 bytes
 abbrev pub EndCause : End → Configuration → ℕ → List Entry → Input → Input → List ℕ → List (List ℕ) → Type 0
 EndCause ends.Exit config conn log in0 in1 taken others = PartedBy config conn log parting.Exit
 EndCause ends.AuthRefused config conn log in0 in1 taken others = PartedBy config conn log parting.AuthRefused
-EndCause ends.Stopped config conn log in0 in1 taken others = StoppedBy config conn log
+EndCause ends.Stopped config conn log in0 in1 taken others = MadeToStop config conn log
 EndCause ends.Eof config conn log in0 in1 taken others = (others ≡ []) × IsAtEnd in1.left
 EndCause ends.ReadFault config conn log in0 in1 taken others = (others ≡ []) × (in1.faults ≡ raised in0.faults)
 EndCause (ends.TooLong len) config conn log in0 in1 taken others = (others ≡ []) × (fault_of (rest_of taken) ≡ Some (faults.TooLong len))

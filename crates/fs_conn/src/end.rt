@@ -14,7 +14,7 @@ pub enum End {
     Eof,
     /// By a password that was refused.
     AuthRefused,
-    /// By the end of the switch.
+    /// By the end of the switch, or since the channel that it controlled left it.
     Stopped,
     /// By a read that failed.
     ReadFault,
@@ -42,7 +42,7 @@ impl End {
         match parting? {
             Parting::Exit => Some(End::Exit),
             Parting::AuthRefused => Some(End::AuthRefused),
-            Parting::Stopped => Some(End::Stopped),
+            Parting::Stopped | Parting::ChannelLeft => Some(End::Stopped),
             Parting::EndOfInput => None,
         }
     }

@@ -49,10 +49,10 @@ pub fn enters_commands_once()
 {}
 
 /// A play comes to an end, and each end has its cause. So a play ends by `exit` only where that is its last command,
-/// by which its connection parted; by the end of the switch only where an entry brought that, by which its connection
-/// parted, and no command came behind it; by a full journal only where no further entry is accepted behind what its
-/// journal costs; and as one that ran away only where somebody still has something to do at the moment of the last
-/// 100,000 entries, all of which are work.
+/// by which its connection parted; as one that was made to stop only where by an entry its connection parted, behind
+/// which no command came, and which brought the end of the switch or left it without the channel that it controlled;
+/// by a full journal only where no further entry is accepted behind what its journal costs; and as one that ran away
+/// only where somebody still has something to do at the moment of the last 100,000 entries, all of which are work.
 pub fn ends_for_a_cause()
     ensures ends { (config : Configuration) (input : List ℕ) (read_failed : Bool)
         → (end : End) × ((played config input read_failed).end ≡ Some end) }

@@ -66,6 +66,10 @@ impl<L: Link> Play<'_, '_, L> {
     {
         match self.machine.next_due(self.clock) {
             DueActor::Slot(slot) => Some(Act::Work { slot }),
+            DueActor::Dial(slot) => Some(Act::Dialed {
+                slot,
+                linked: false,
+            }),
             DueActor::Job(job) => Some(Act::Job { job }),
             DueActor::Later(_) | DueActor::Never => None,
         }

@@ -1,8 +1,8 @@
 -- The walk goes on: commands, jobs and all acts.
 use Rattle.std.proofs.Common.{◌≡◌, ℕ, zero, suc, ◌+◌, ◌*◌, ◌<◌, ◌≤◌, ◌⊎◌, inl, inr, length, arith, nat_lt, Bool, true, false, if◌then◌else◌, [], ◌∷◌, Option, None, Some}
-use Rattle.std.proofs.Common.{◌++◌, ◌∙◌, Result, Ok, Err, refl, sym, ap}
-use Rattle.std.specs.Prelude.{◌&&◌, map, codes}
-use Rattle.std.specs.Option.{option_or}
+use Rattle.std.proofs.Common.{◌++◌, ◌∙◌, Result, Ok, Err, refl, sym, ap, subst}
+use Rattle.std.specs.Prelude.{◌&&◌, not, map, codes}
+use Rattle.std.specs.Option.{option_or, option_and_then}
 use Rattle.std.specs.Str.{bytes_eq}
 use Rattle.fs_text.specs.Texts.{Text}
 use Rattle.fs_text.specs.declared.causes.Cause.{Cause}
@@ -10,7 +10,7 @@ use Rattle.fs_vars.specs.Variables.{can_set, set_to}
 use Rattle.fs_vars.specs.Expansion.{expanded}
 use Rattle.fs_cmd.specs.Commands as command
 use Rattle.fs_cmd.specs.Commands.{Command, command_of, Message, Execute, Hangup, BadCall}
-use Rattle.fs_cmd.specs.Frames.{reply, api_reply, notice, accepted, invalid, bye, not_found}
+use Rattle.fs_cmd.specs.Frames.{reply, api_reply, notice, accepted, invalid, bye, denied, not_found}
 use Rattle.fs_cmd.specs.Frames.{event_enabled, format_unsupported, event_disabled, no_longer_listening, not_listening}
 use Rattle.fs_cmd.specs.Frames.{filter_added, filter_deleted, invalid_syntax, filter_not_found}
 use Rattle.fs_cmd.specs.Frames.{job_begun, jobs_full}
@@ -48,8 +48,10 @@ use Rattle.fs_chan.specs.Changes.{in_state, is_live, parked, transferred, takes_
 use Rattle.fs_chan.specs.Exports.{with_set}
 use Rattle.fs_chan.specs.declared.chan.Chan.{Chan}
 use Rattle.fs_chan.specs.declared.wait.Wait.TheVariants.{Ready}
+use Rattle.fs_chan.specs.Controlling.{dial_of}
 use Rattle.fs_state.specs.Switch.{Switch, chan_at, with_chan, with_event, job_of, without_job, slot_named, is_full_of_jobs}
-use Rattle.fs_state.specs.Moves.{plain_event, after_move}
+use Rattle.fs_state.specs.Switch.{is_full_of_conns}
+use Rattle.fs_state.specs.Moves.{plain_event, after_move, after_completion}
 use Rattle.fs_state.specs.Hangups.{after_hangups, legs_at, lives, lives_at}
 use Rattle.fs_state.specs.Bridging.{can_join, joined_as, after_join}
 use Rattle.fs_machine.specs.declared.entry.Act.{Act}
@@ -72,7 +74,8 @@ use Rattle.fs_state.specs.Leaving.{after_leaving_others}
 use Rattle.fs_machine.proofs.LeaveLemmas.{left_free, parked_stays, transferred_stays}
 use Rattle.fs_machine.proofs.BondLeaves.{departed_lone}
 use Rattle.std.specs.List.{range_with_len}
-use Rattle.std.proofs.lemmas.Bool.{cases_eq}
+use Rattle.std.proofs.lemmas.Bool.{cases_eq, false≢true}
+use Rattle.std.proofs.lemmas.Option.{none-some}
 use Rattle.fs_bridge.specs.Hangups.{IsOneOf}
 use Rattle.fs_seats.proofs.HeldLemmas.{held_within}
 use Rattle.fs_state.specs.Ending.{ended}
@@ -85,24 +88,27 @@ use Rattle.fs_machine.specs.Applications.{unless_too_long, argument_in}
 use Rattle.fs_machine.specs.Api.{kill_done, with_variable, variable_set_on, variable_set_at, sleep_begun, msleep_done, dialed}
 use Rattle.fs_machine.specs.Api.{originate_done}
 use Rattle.fs_machine.specs.Api.{chan_named, done_plainly, done_expanded, done_over, done_by}
-use Rattle.fs_machine.specs.Commands.{with_reply, after_dismissal, after_password, with_response_of, command_done_in, command_done}
+use Rattle.fs_machine.specs.Commands.{with_reply, after_dismissal, after_password, with_response_of, with_response, command_done_in, command_done}
 use Rattle.fs_machine.specs.Commands.{after_asking, unless_unknown, after_subscribing, after_unsubscribing, after_silence, after_deletion}
-use Rattle.fs_machine.specs.Commands.{with_begun_told, after_background}
+use Rattle.fs_machine.specs.Commands.{with_begun_told, after_background, control_at, controlled_uuid, message_done_to, may_command_all}
+use Rattle.fs_machine.specs.Commands.{unless_denied, greeted_by, after_connect}
 use Rattle.fs_machine.specs.Commands.{with_filter_added, with_filters_deleted, queued_on, message_done, message_done_at, message_sent}
-use Rattle.fs_machine.specs.Step.{after_close, act_done}
+use Rattle.fs_machine.specs.Controlling.{dial_at, has_hold, taken_hold, after_dial_of, after_dial, after_letting_go, farewell, after_leavings}
+use Rattle.fs_machine.specs.Controlling.{greeting_for}
+use Rattle.fs_machine.specs.Step.{after_close, acted, act_done}
 use Rattle.fs_machine.proofs.Kept.{IsApart, hold_in, Stays, Stage, Fact, KeptByCalls, DoesJob, KeptByJobs, KeptByDials, LeavesBy}
 use Rattle.fs_machine.proofs.Kept.{IsShortWinner}
 use Rattle.fs_machine.proofs.DrawnLemmas.{SameDrawn, both_left_drawn}
-use Rattle.fs_machine.proofs.Kept.{WasApart, AreDead, MayGoOn, KeptByApi, KeptByCommands, KeptByMoves}
-use Rattle.fs_machine.proofs.ShortLemmas.{NamesShort, api_short, expanded_short}
+use Rattle.fs_machine.proofs.Kept.{WasApart, WasLetGo, AreDead, MayGoOn, KeptByApi, KeptByCommands, KeptByMoves}
+use Rattle.fs_machine.proofs.ShortLemmas.{right_holds, NamesShort, api_short, expanded_short}
 use Rattle.fs_machine.proofs.DialLemmas.{dialed_groups}
 use Rattle.fs_machine.proofs.JoinLemmas.{apart_now, apart_hung, apart_left, DialsNone, left_dials, left_dials_still, CanMeet}
 use Rattle.fs_machine.proofs.JoinLemmas.{meets_now, join_meets, media_meets, ready_lone}
 use Rattle.fs_machine.proofs.JoinLemmas.{media_stays}
-use Rattle.fs_machine.proofs.StayLemmas.{moved_plain, early_vars, same_vars, quiet_stays}
+use Rattle.fs_machine.proofs.StayLemmas.{moved_plain, early_vars, same_vars, same_holder, quiet_stays, dials_at_work}
 use Rattle.fs_machine.proofs.LimitLemmas.{with_set_limited}
 use Rattle.fs_machine.proofs.TryWalk.{verdict_kept}
-use Rattle.fs_machine.proofs.Walk.{worked_kept}
+use Rattle.fs_machine.proofs.Walk.{completed_kept, let_go_kept, worked_kept}
 use Rattle.fs_machine.proofs.AbortLemmas.{queue_left_kept, queues_left_kept}
 use Rattle.fs_state.specs.Queues.{queue_event}
 use Rattle.fs_state.specs.declared.event.QueueAction.TheVariants.{Abort}
@@ -141,13 +147,15 @@ all_die cause s slot = by (chan_at (after_hangup_of_all cause s) slot) refl
         slots_die cause (all_slots s) s slot (in_range 0 (length s.channels) slot (omega arith) (omega (arith, within)))
 
 -- all are hung up, that is told, and nothing is left
-module _ (P : Fact) (calls : KeptByCalls P)
+module _ (P : Fact) (calls : KeptByCalls P) (leavings : (s : Switch) → P (Some 0) s → P (Some 0) (after_leavings s))
     (ends : (reply notice : Text) (s : Switch) → AreDead s → P (Some 0) s → P (Some 1) (ended reply notice s)) where
   shut_down_kept : (s : Switch) → P None s → P (Some 0) s → P (Some 1) (after_shutdown s)
   unfolding after_shutdown
   shut_down_kept s early h =
-      ends stopped_reply notice (with_event shutdown_event (after_hangup_of_all SystemShutdown s)) (all_die SystemShutdown s)
-      (calls.touches.told shutdown_event (refl, tt) (calls.hung (map (λ slot. (slot, SystemShutdown)) (all_slots s)) early h))
+      ends stopped_reply notice (with_event shutdown_event (after_leavings (after_hangup_of_all SystemShutdown s)))
+      (all_die SystemShutdown s)
+      (calls.touches.told shutdown_event (refl, tt)
+      (leavings (after_hangup_of_all SystemShutdown s) (calls.hung (map (λ slot. (slot, SystemShutdown)) (all_slots s)) early h)))
 
 -- ---- commands
 
@@ -166,7 +174,7 @@ module _ (who : Giver) (P : Fact) (calls : KeptByCalls P) (commands : KeptByApi 
       P None (with_chan slot (Some (with_variable name value c)) s)
   variable_kept name value slot c is h =
       calls.touches.changed slot c (with_variable name value c) is
-      (quiet_stays c (with_variable name value c) (record { links = refl; direction = refl; state = refl; profile = refl })
+      (quiet_stays c (with_variable name value c) (record { links = refl; direction = refl; state = refl; profile = refl; holder = same_holder refl refl })
       (early_vars c.vars (with_set c.vars name value) (with_set_limited c.vars name value)))
       h
 
@@ -335,7 +343,8 @@ module _ (who : Giver) (P : Fact) (calls : KeptByCalls P) (commands : KeptByApi 
   done_plainly_kept (api.Hupall cause) {s} may short h =
       calls.more (calls.hung (map (λ slot. (slot, cause)) (all_slots s)) h (commands.spent h))
   done_plainly_kept api.Shutdown {s} may short h =
-      shut_down_kept P calls (λ reply notice t dead k. commands.ends reply notice {s = t} dead k) s h (commands.spent h)
+      shut_down_kept P calls (λ t k. commands.leavings {s = t} k) (λ reply notice t dead k. commands.ends reply notice {s = t} dead k) s h
+      (commands.spent h)
   done_plainly_kept (api.Originate url winner cid_name cid_number timeout) may short h =
       calls.more (originated_kept url winner (record { name = cid_name; number = cid_number }) timeout may short h)
   done_plainly_kept (api.Usage which) may short h = calls.more (commands.spent h)
@@ -409,17 +418,21 @@ module _ (conn : ℕ) (P : Fact) (calls : KeptByCalls P) (commands : KeptByComma
   replied_kept : (text : Text) {s : Switch} → P (Some 0) s → P (Some 0) (with_reply conn text s)
   replied_kept text h = commands.gave (reply text []) h
 
-  dismissed_kept : (why : Parting) (text : Text) {s : Switch} → LeavesBy why → P (Some 0) s → P (Some 0) (after_dismissal conn why text s)
-  dismissed_kept why text leaves h = commands.noticed notice (commands.gave (reply text []) (commands.parted why leaves h))
+  dismissed_kept : (why : Parting) (text : Text) {s : Switch} → LeavesBy why → P None s → P (Some 0) (after_dismissal conn why text s)
+  dismissed_kept why text {s} leaves h =
+      commands.noticed (farewell (control_at s conn))
+      (commands.gave (reply text [])
+      (commands.parted why leaves (record { past = s; first = h; left = refl })
+      (commands.api.spent (let_go_kept P calls.touches conn h))))
 
-  offered_kept : (given : Text) {s : Switch} → phase_at s conn ≡ phase.Fresh → P (Some 0) s → P (Some 0) (after_password conn given s)
+  offered_kept : (given : Text) {s : Switch} → phase_at s conn ≡ phase.Fresh → P None s → P (Some 0) (after_password conn given s)
   offered_kept given {s} fresh h = by (bytes_eq given s.settings.password)
     where
       by : (same : Bool) →
           P (Some 0)
           (if same then with_reply conn accepted (conn_changed admitted conn s)
           else after_dismissal conn parting.AuthRefused invalid s)
-      by true = replied_kept accepted (commands.admitted fresh h)
+      by true = replied_kept accepted (commands.admitted fresh (commands.api.spent h))
       by false = dismissed_kept parting.AuthRefused invalid tt h
 
   -- ---- events
@@ -478,7 +491,7 @@ module _ (conn : ℕ) (P : Fact) (calls : KeptByCalls P) (commands : KeptByComma
           (if test then with_reply conn message_taken (with_chan slot (Some (with_message message c)) s) else with_reply conn messages_full s)
       room c true is =
           replied_kept message_taken (commands.api.spent (calls.touches.changed slot c (with_message message c) is
-          (quiet_stays c (with_message message c) (record { links = refl; direction = refl; state = refl; profile = refl })
+          (quiet_stays c (with_message message c) (record { links = refl; direction = refl; state = refl; profile = refl; holder = same_holder refl refl })
           (same_vars c.vars c.vars refl)) h))
       room c false is = replied_kept messages_full (commands.api.spent h)
 
@@ -497,9 +510,30 @@ module _ (conn : ℕ) (P : Fact) (calls : KeptByCalls P) (commands : KeptByComma
   messaged_at uuid message None h = replied_kept (invalid_session uuid) (commands.api.spent h)
   messaged_at uuid message (Some slot) h = message_kept uuid message slot h
 
+  messaged_for : (uuid : Option Text) (message : Message) {s : Switch} → P None s → P (Some 0) (message_done_to conn uuid message s)
+  messaged_for None message h = replied_kept (invalid_session []) (commands.api.spent h)
+  messaged_for (Some uuid) message {s} h = messaged_at uuid message (slot_named uuid s) h
+
   messaged_kept : (uuid : Option Text) (message : Message) {s : Switch} → P None s → P (Some 0) (message_sent conn uuid message s)
-  messaged_kept None message h = replied_kept (invalid_session []) (commands.api.spent h)
-  messaged_kept (Some uuid) message {s} h = messaged_at uuid message (slot_named uuid s) h
+  messaged_kept None message {s} h = messaged_for (controlled_uuid (control_at s conn)) message h
+  messaged_kept (Some uuid) message h = messaged_for (Some uuid) message h
+
+  -- ---- controllers
+
+  permitted_kept : (done : Switch → Switch) {s : Switch} → (P None s → P (Some 1) (done s)) → P None s →
+      P (Some 1) (unless_denied conn done s)
+  permitted_kept done {s} does h = by (may_command_all (control_at s conn))
+    where
+      by : (may : Bool) → P (Some 1) (if may then done s else with_reply conn denied s)
+      by true = does h
+      by false = calls.more (replied_kept denied (commands.api.spent h))
+
+  greeted_kept : {s : Switch} → P None s → P (Some 0) (after_connect conn s)
+  greeted_kept {s} h = by (greeting_for (control_at s conn) s)
+    where
+      by : (text : Option Text) → P (Some 0) (greeted_by conn text s)
+      by None = replied_kept not_found (commands.api.spent h)
+      by (Some text) = commands.gave text (commands.api.spent h)
 
   -- ---- all commands
 
@@ -508,14 +542,15 @@ module _ (conn : ℕ) (P : Fact) (calls : KeptByCalls P) (commands : KeptByComma
   commanded_kept c {s} h = by (phase_at s conn) refl c
     where
       by : (at : Phase) → phase_at s conn ≡ at → (given : Command) → P (Some 1) (command_done_in at conn given s)
-      by phase.Fresh is (command.Auth given) = calls.more (offered_kept given is (commands.api.spent h))
-      by phase.Fresh is command.Exit = calls.more (dismissed_kept parting.Exit bye tt (commands.api.spent h))
+      by phase.Fresh is (command.Auth given) = calls.more (offered_kept given is h)
+      by phase.Fresh is command.Exit = calls.more (dismissed_kept parting.Exit bye tt h)
       by phase.Fresh is _ = calls.more (replied_kept not_found (commands.api.spent h))
       by phase.Ready is (command.Auth given) = calls.more (replied_kept not_found (commands.api.spent h))
-      by phase.Ready is command.Exit = calls.more (dismissed_kept parting.Exit bye tt (commands.api.spent h))
+      by phase.Ready is command.Exit = calls.more (dismissed_kept parting.Exit bye tt h)
       by phase.Ready is (command.Api text) =
-          responded_kept (done_by (giver.Conn conn) (api_of text) s).reply
-          (done_kept (giver.Conn conn) P calls commands.api (api_of text) tt (api_short text) h)
+          permitted_kept (λ t. with_response conn (done_by (giver.Conn conn) (api_of text) t))
+          (λ k. responded_kept (done_by (giver.Conn conn) (api_of text) s).reply
+          (done_kept (giver.Conn conn) P calls commands.api (api_of text) tt (api_short text) k)) h
       by phase.Ready is (command.Event form names) = calls.more (subscribed_kept form names (commands.api.spent h))
       by phase.Ready is (command.Nixevent names) = calls.more (unsubscribed_kept names (commands.api.spent h))
       by phase.Ready is command.Noevents = calls.more (silenced_kept (commands.api.spent h))
@@ -523,9 +558,9 @@ module _ (conn : ℕ) (P : Fact) (calls : KeptByCalls P) (commands : KeptByComma
           calls.more (asked_kept (with_filter_added header value) (filter_added header value) (commands.api.spent h))
       by phase.Ready is (command.FilterDelete header value) = calls.more (deleted_kept header value (commands.api.spent h))
       by phase.Ready is command.BadFilter = calls.more (replied_kept invalid_syntax (commands.api.spent h))
-      by phase.Ready is (command.Bgapi text job) = behind_kept job text h
+      by phase.Ready is (command.Bgapi text job) = permitted_kept (after_background conn job text) (λ k. behind_kept job text k) h
       by phase.Ready is (command.Sendmsg uuid message) = calls.more (messaged_kept uuid message h)
-      by phase.Ready is command.Connect = calls.more (replied_kept not_found (commands.api.spent h))
+      by phase.Ready is command.Connect = calls.more (greeted_kept h)
       by phase.Ready is command.Unknown = calls.more (replied_kept not_found (commands.api.spent h))
       by phase.Ending is given = calls.more (commands.api.spent h)
       by phase.Closed is given = calls.more (commands.api.spent h)
@@ -536,18 +571,59 @@ module _ (before : Switch) (P : Fact) (kept : KeptByMoves before P) where
   spent : {s : Switch} → P None s → P (Some 0) s
   spent h = (kept.commands 0).api.spent h
 
-  closed_kept : (how : Closing) (conn : ℕ) {s : Switch} → P (Some 0) s → P (Some 0) (after_close how conn s)
-  closed_kept closing.EndOfInput conn h = kept.visits.silent conn h
-  closed_kept closing.Sent conn h = kept.visits.left conn h
-  closed_kept closing.Failed conn h = kept.visits.left conn h
+  leavings : {n : ℕ} {s : Switch} → P (Some n) s → P (Some n) (after_leavings s)
+  leavings h = (kept.commands 0).api.leavings h
+
+  -- it has let its channel go
+  freed_kept : (conn : ℕ) {s : Switch} → P None s → P (Some 0) (after_letting_go conn s)
+  freed_kept conn h = spent (let_go_kept P kept.calls.touches conn h)
+
+  was_freed : (conn : ℕ) {s : Switch} → P None s → WasLetGo P conn (after_letting_go conn s)
+  was_freed conn {s} h = record { past = s; first = h; left = refl }
+
+  closed_kept : (how : Closing) (conn : ℕ) {s : Switch} → P None s → P (Some 0) (after_close how conn s)
+  closed_kept closing.EndOfInput conn h = kept.visits.silent conn (was_freed conn h) (freed_kept conn h)
+  closed_kept closing.Sent conn h = kept.visits.left conn (was_freed conn h) (freed_kept conn h)
+  closed_kept closing.Failed conn h = kept.visits.left conn (was_freed conn h) (freed_kept conn h)
+
+  -- a controller was dialed
+  dial_kept : (linked : Bool) (slot : ℕ) → P None before → P (Some 0) (after_dial linked slot before)
+  dial_kept linked slot h = by (chan_at before slot) refl (dial_at before slot) refl
+    where
+      seats : (full : Bool) → not full ≡ true → full ≡ false
+      seats true free = absurd (false≢true free)
+      seats false free = refl
+
+      held : (c : Chan) (text : Text) → chan_at before slot ≡ Some c → dial_of c ≡ Some text → (test : Bool) →
+          has_hold linked before ≡ test →
+          P (Some 0) (if test then taken_hold (chan_at before slot) text slot before else after_completion slot before)
+      held c text there waits true is =
+          subst (λ (found : Option Chan). P (Some 0) (taken_hold found text slot before)) (sym there)
+          (kept.visits.holds slot c text there waits
+          (seats (is_full_of_conns before) (right_holds linked (not (is_full_of_conns before)) is)) h)
+      held c text there waits false is =
+          spent
+          (completed_kept P kept.calls.touches slot (record { chan = c; there = there; works = dials_at_work c text waits }) h)
+
+      by : (found : Option Chan) → chan_at before slot ≡ found → (text : Option Text) → option_and_then dial_of found ≡ text →
+          P (Some 0) (after_dial_of text linked slot before)
+      by found there None is = spent h
+      by None there (Some text) is = absurd (none-some text is)
+      by (Some c) there (Some text) is = held c text there is (has_hold linked before) refl
 
   -- an act frees one slot at most, or draws one identifier for none
+  alone_kept : (a : Act) → P None before → P (Some 1) (acted a before).state
+  alone_kept act.Arrive h = kept.calls.more (kept.visits.arrived h)
+  alone_kept (act.Command conn block) h = commanded_kept conn P kept.calls (kept.commands conn) (command_of block) h
+  alone_kept (act.Take conn) h = kept.calls.more (kept.visits.taken conn (spent h))
+  alone_kept (act.Close conn how) h = kept.calls.more (closed_kept how conn h)
+  alone_kept (act.Dialed slot linked) h = kept.calls.more (dial_kept linked slot h)
+  alone_kept (act.Work slot) h = worked_kept before P kept.calls kept.dials slot h
+  alone_kept act.Halt h =
+      shut_down_kept P kept.calls (λ t k. leavings {s = t} k) (λ reply notice t dead k. kept.visits.halted reply notice {s = t} dead k) before h
+      (spent h)
+  alone_kept (act.Job number) h = job_kept before P kept.calls kept.dials kept.jobs number h (spent h)
+
+  -- so it does with what comes behind it
   pub acted_kept : (a : Act) → P None before → P (Some 1) (act_done a before).state
-  acted_kept act.Arrive h = kept.calls.more (kept.visits.arrived h)
-  acted_kept (act.Command conn block) h = commanded_kept conn P kept.calls (kept.commands conn) (command_of block) h
-  acted_kept (act.Take conn) h = kept.calls.more (kept.visits.taken conn (spent h))
-  acted_kept (act.Close conn how) h = kept.calls.more (closed_kept how conn (spent h))
-  acted_kept (act.Work slot) h = worked_kept before P kept.calls kept.dials slot h
-  acted_kept act.Halt h =
-      shut_down_kept P kept.calls (λ reply notice t dead k. kept.visits.halted reply notice {s = t} dead k) before h (spent h)
-  acted_kept (act.Job number) h = job_kept before P kept.calls kept.dials kept.jobs number h (spent h)
+  acted_kept a h = leavings (alone_kept a h)

@@ -3,6 +3,7 @@ use Rattle.std.proofs.Common.{◌≡◌, ℕ, Bool, true, false, if◌then◌els
 use Rattle.std.proofs.Common.{refl, sym, ap, subst, ◌∙◌, true≢false}
 use Rattle.std.proofs.lemmas.Bool.{eqb-true, false≢true}
 use Rattle.std.proofs.lemmas.Option.{none-some, same_Some}
+use Rattle.fs_text.specs.Texts.{Text}
 use Rattle.fs_text.specs.Cause.{cause_name}
 use Rattle.fs_text.specs.declared.causes.Cause.{Cause}
 use Rattle.fs_text.specs.declared.states.State.TheVariants.{CsHangup, CsPark}
@@ -14,6 +15,7 @@ use Rattle.fs_chan.specs.declared.wait.Wait.{Wait}
 use Rattle.fs_chan.specs.declared.wait.Wait.TheVariants.{Legs, Bridged}
 use Rattle.fs_chan.specs.Bridging.{awaited_in, awaited_by, bridged, in_media, at_leisure, unbridged}
 use Rattle.fs_chan.specs.Changes.{is_live, at_rest, parked, hung_up}
+use Rattle.fs_chan.specs.Controlling.{held_by, dial_of}
 use Rattle.fs_orig.specs.declared.orig.Orig.{Orig}
 use Rattle.fs_orig.specs.declared.orig.Owner.{Owner}
 use Rattle.fs_orig.specs.declared.orig.Owner.TheVariants as owner
@@ -33,8 +35,8 @@ use Rattle.fs_machine.specs.Bridging.{goes_on, after_going_on, bridge_failed_fro
 use Rattle.fs_machine.specs.Joining.{after_leaving}
 use Rattle.fs_machine.specs.Leaving.{after_departure}
 use Rattle.fs_machine.proofs.LeaveLemmas.{departed_kept}
-use Rattle.fs_machine.proofs.Kept.{Stage, hold_in, Links, Stays, KeptByTouches}
-use Rattle.fs_machine.proofs.StayLemmas.{exchange_lives, moved_there, changed_there, state_told_kept, orig_changed_channels}
+use Rattle.fs_machine.proofs.Kept.{Stage, hold_in, Links, Keeps, KeptByTouches}
+use Rattle.fs_machine.proofs.StayLemmas.{exchange_lives, held_keeps, moved_there, changed_there, state_told_kept, orig_changed_channels}
 use Rattle.fs_machine.proofs.JoinLemmas.{rest_dials}
 use Rattle.fs_machine.proofs.TieLemmas.{lives_as}
 use Rattle.fs_machine.proofs.HangLemmas.{Settles, Freed, Resumes, Halts, hangups_kept_by}
@@ -66,10 +68,10 @@ held_awaits (Legs orig) = refl
 held_awaits Bridged = refl
 held_awaits _ = refl
 
-stays_awaits : {b : Stage} (old new : Chan) → Stays b old new → AwaitsNoMore old new
-stays_awaits old new stays number is = (
-  sym (held_awaits old.wait) ∙ sym (ap (λ (l : Links). awaited_in l.hold) stays.links) ∙ held_awaits new.wait ∙ is,
-  λ live. stays.live ∙ live,
+keeps_awaits : {b : Stage} (old new : Chan) → Keeps b old new → AwaitsNoMore old new
+keeps_awaits old new keeps number is = (
+  sym (held_awaits old.wait) ∙ sym (ap (λ (l : Links). awaited_in l.hold) keeps.links) ∙ held_awaits new.wait ∙ is,
+  λ live. keeps.live ∙ live,
 )
 
 -- the channel in a slot waits for nothing
@@ -126,11 +128,17 @@ module _ (open_at : ℕ → Type 0) where
   touches_await = record {
     told = λ event plain h. h;
     globals = λ globals h. h;
-    changed = λ slot old new {s = s} there stays h. put slot old new s there (stays_awaits old new stays) h;
+    changed = λ slot old new {s = s} there stays h. put slot old new s there (keeps_awaits old new stays.keeps) h;
     answers = λ seat slot number {s = s} h.
         orig_changed_await (leg_changed (λ position. with_answer position seat) slot) number s
         (leg_keeps (λ position. with_answer position seat) slot (λ position o. refl)) h;
   }
+
+  -- a connection takes hold of a channel
+  pub taken_await : (slot conn : ℕ) (c : Chan) (text : Text) (s : Switch) → chan_at s slot ≡ Some c → dial_of c ≡ Some text →
+      AwaitAt open_at s → AwaitAt open_at (with_chan slot (Some (held_by conn c)) s)
+  taken_await slot conn c text s there waits h =
+      put slot c (held_by conn c) s there (keeps_awaits c (held_by conn c) (held_keeps {b = None} conn c text waits)) h
 
   -- ---- hangups
 
@@ -306,8 +314,8 @@ left_await_all slot s h =
     let t : Switch = orig_given_up slot awaited s in
     let gone : AwaitsBut slot t =
     given_up_await (λ at. at ≡ slot) slot awaited s (λ c is. inr refl) (open_await (λ at. at ≡ slot) s.channels s.origs h) in
-    close slot (with_changed_chan at_leisure slot t) (changed_none at_leisure slot t (λ c. rest_dials c.socket c.state))
-    (changed_await (λ at. at ≡ slot) at_leisure slot t (λ c. awaits_none c (at_leisure c) (rest_dials c.socket c.state)) gone)
+    close slot (with_changed_chan at_leisure slot t) (changed_none at_leisure slot t (λ c. rest_dials None c.state))
+    (changed_await (λ at. at ≡ slot) at_leisure slot t (λ c. awaits_none c (at_leisure c) (rest_dials None c.state)) gone)
 
 pub departed_await : (slot : ℕ) (s : Switch) → Awaits s → Awaits (after_departure slot s)
 departed_await slot s h =

@@ -25,13 +25,14 @@ use Rattle.fs_state.specs.declared.conn.Parting.TheVariants as parting
 use Rattle.fs_state.specs.declared.job.Asker.{Asker}
 use Rattle.fs_state.specs.declared.job.JobWork.{JobWork}
 use Rattle.fs_state.specs.declared.job.JobWork.TheVariants.{Sleep, Originate}
-use Rattle.fs_state.specs.Switch.{Switch, chan_at, without_orig, next_orig_number}
+use Rattle.fs_state.specs.Switch.{Switch, chan_at, with_new_conn, without_orig, next_orig_number}
 use Rattle.fs_state.specs.Hangups.{lives}
 use Rattle.fs_state.specs.Moves.{after_move}
 use Rattle.fs_state.proofs.LegTables.{Origs}
 use Rattle.fs_machine.specs.declared.call.Call.{Call}
 use Rattle.fs_machine.specs.Texts.{made_text, failed_text}
 use Rattle.fs_machine.specs.Connections.{conn_changed, admitted, parted, with_subs_changed}
+use Rattle.fs_machine.specs.Controlling.{coming_number, controller}
 use Rattle.fs_machine.specs.Originations.{seconds, pair_made, MadeGroup, group_made, won_by, after_winning}
 use Rattle.fs_machine.specs.Attempts.{first_group, orig_begun, originate_begun, with_group}
 use Rattle.fs_machine.specs.Bridging.{caller_of, group_dialed}
@@ -41,7 +42,7 @@ use Rattle.fs_machine.specs.declared.owing.Giver.TheVariants as giver
 use Rattle.fs_machine.specs.Owing.{job_number, after_job_begin, background_begun, after_job_end}
 use Rattle.fs_chan.specs.Moments.{moment_after}
 use Rattle.fs_machine.proofs.Kept.{Stage, hold_in, Fact, KeptByTouches, KeptByCalls, KeptByBirths, DoesJob, raced, KeptByJobs, KeptByDials}
-use Rattle.fs_machine.proofs.Kept.{apart_by, AreDead, goes_on_by, KeptByApi, KeptByCommands, KeptByMoves}
+use Rattle.fs_machine.proofs.Kept.{apart_by, AreDead, goes_on_by, let_go_by, KeptByApi, KeptByCommands, KeptByMoves}
 use Rattle.fs_machine.proofs.JoinLemmas.{both_left_kept}
 use Rattle.fs_machine.proofs.StayLemmas.{moved_there}
 use Rattle.fs_machine.proofs.NameLemmas.{leg_chan, far_chan, pair_channels}
@@ -54,7 +55,7 @@ use Rattle.fs_machine.proofs.BondTables.{Bonds, NoSlot, Stood, stood}
 use Rattle.fs_machine.proofs.JoinableLemmas.{winner_joins}
 use Rattle.fs_machine.proofs.AwaitedTables.{HasOwner, Await, awaits_none, new_await, left_await, rows_await, stay_new, gone_await}
 use Rattle.fs_machine.proofs.AwaitedLemmas.{Awaits, touches_await, moved_await, orig_changed_await, hung_await, failed_await, won_await}
-use Rattle.fs_machine.proofs.AwaitedLemmas.{joined_await, left_await_all, departed_await, without_await}
+use Rattle.fs_machine.proofs.AwaitedLemmas.{taken_await, joined_await, left_await_all, departed_await, without_await}
 
 -- ---- births
 
@@ -286,6 +287,7 @@ module _ (before : Switch) (stand : LegsStand (roles_of before)) (left : has_num
       q.originates groups winner caller timeout (goes_on_by Waiting Q by s may (λ t k. k.0)) are short free h.0,
       originated_await by groups winner caller timeout s h,
     );
+    leavings = λ h. (q.leavings h.0, h.1);
     ends = λ reply notice {s = s} dead h. (q.ends reply notice dead h.0, dead_await (length s.origs) s dead h.1);
   }
 
@@ -361,7 +363,8 @@ module _ (before : Switch) (stand : LegsStand (roles_of before)) (left : has_num
     gave = λ frame h. ((kept.commands conn).gave frame h.0, h.1);
     asked = λ change {s = s} h. ((kept.commands conn).asked change h.0, conn_await (with_subs_changed change) conn s h.1);
     admitted = λ {s = s} new h. ((kept.commands conn).admitted new h.0, conn_await admitted conn s h.1);
-    parted = λ why {s = s} leaves h. ((kept.commands conn).parted why leaves h.0, conn_await (parted why) conn s h.1);
+    parted = λ why {s = s} leaves was h.
+        ((kept.commands conn).parted why leaves (let_go_by was (λ t k. k.0)) h.0, conn_await (parted why) conn s h.1);
     backgrounds = λ given command {s = s} free h. (
       (kept.commands conn).backgrounds given command free h.0,
       roles_await s (background_begun given command s) (background_roles given command s) h.1,
@@ -377,8 +380,13 @@ module _ (before : Switch) (stand : LegsStand (roles_of before)) (left : has_num
     visits = record {
       arrived = λ h. (kept.visits.arrived h.0, h.1);
       taken = λ conn h. (kept.visits.taken conn h.0, h.1);
-      silent = λ conn {s = s} h. (kept.visits.silent conn h.0, conn_await (parted parting.EndOfInput) conn s h.1);
-      left = λ conn h. (kept.visits.left conn h.0, h.1);
+      holds = λ slot c text {s = s} there waits free h. (
+        kept.visits.holds slot c text there waits free h.0,
+        taken_await NoSlot slot (coming_number s) c text (with_new_conn (controller slot c text) s) there waits h.1,
+      );
+      silent = λ conn {s = s} was h.
+          (kept.visits.silent conn (let_go_by was (λ t k. k.0)) h.0, conn_await (parted parting.EndOfInput) conn s h.1);
+      left = λ conn was h. (kept.visits.left conn (let_go_by was (λ t k. k.0)) h.0, h.1);
       halted = λ reply notice {s = s} dead h.
           (kept.visits.halted reply notice dead h.0, dead_await (length s.origs) s dead h.1);
     };

@@ -13,6 +13,7 @@ use Rattle.fs_bridge.specs.declared.row.BridgeKind.TheVariants.{Dial}
 use Rattle.fs_chan.specs.declared.chan.Chan.{Chan}
 use Rattle.fs_chan.specs.Bridging.{awaiting, awaited_by, exported_pairs, bridged, in_media, with_disposition}
 use Rattle.fs_chan.specs.Changes.{at_rest}
+use Rattle.fs_chan.specs.Controlling.{held_by}
 use Rattle.fs_chan.specs.Moments.{moment_after}
 use Rattle.fs_orig.specs.declared.caller.Caller.{Caller}
 use Rattle.fs_orig.specs.declared.leg.OrigLeg.{OrigLeg}
@@ -38,6 +39,7 @@ use Rattle.fs_state.specs.Bridging.{peer_of, with_peer_from, with_peer, joined_a
 use Rattle.fs_state.proofs.LegTables.{berthed}
 use Rattle.fs_machine.specs.Texts.{made_text, failed_text}
 use Rattle.fs_machine.specs.Connections.{conn_changed, admitted, parted, with_subs_changed}
+use Rattle.fs_machine.specs.Controlling.{coming_number}
 use Rattle.fs_machine.specs.Originations.{seconds, MadeGroup, group_made, won_by, after_winning}
 use Rattle.fs_machine.specs.Attempts.{first_group, orig_begun, originate_begun, awaits}
 use Rattle.fs_machine.specs.Bridging.{caller_of, group_dialed, goes_on, after_going_on, disposed, bridge_failed_from, after_bridge_failure}
@@ -48,7 +50,7 @@ use Rattle.fs_machine.specs.declared.owing.Giver.TheVariants as giver
 use Rattle.fs_machine.specs.Owing.{job_number, after_job_begin, background_begun, after_job_end}
 use Rattle.fs_machine.specs.Sound.{IsLegIn}
 use Rattle.fs_machine.proofs.Kept.{Stage, Fact, Links, KeptByTouches, KeptByCalls, raced, HasWon, IsOver, KeptByJobs, KeptByDials}
-use Rattle.fs_machine.proofs.Kept.{apart_by, AreDead, goes_on_by, KeptByApi, KeptByCommands, KeptByMoves}
+use Rattle.fs_machine.proofs.Kept.{apart_by, AreDead, goes_on_by, let_go_by, KeptByApi, KeptByCommands, KeptByMoves}
 use Rattle.fs_machine.proofs.StayLemmas.{state_told_kept, moved_there, changed_there}
 use Rattle.fs_machine.proofs.CameLemmas.{CameFrom, came_self, came_hung}
 use Rattle.fs_machine.proofs.ClosureLemmas.{NoneAtZero}
@@ -75,7 +77,7 @@ berthed_touches open_at = record {
   told = λ event plain h. h;
   globals = λ globals h. h;
   changed = λ slot old new {s = s} there stays h.
-      put_berthed open_at (roles_of s) slot old new there (λ number is. sym (ap (λ (l : Links). l.leg_of) stays.links) ∙ is) h;
+      put_berthed open_at (roles_of s) slot old new there (λ number is. sym (ap (λ (l : Links). l.leg_of) stays.keeps.links) ∙ is) h;
   answers = λ seat slot number {s = s} h. answered_berthed open_at seat slot number s h;
 }
 
@@ -322,6 +324,7 @@ module _ (before : Switch) (stand : LegsStand (roles_of before)) (left : has_num
       q.originates groups winner caller timeout (goes_on_by Berthing Q by s may (λ t k. k.0)) are short free h.0,
       originated_berthed by groups winner caller timeout s free h,
     );
+    leavings = λ h. (q.leavings h.0, h.1);
     ends = λ reply notice {s = s} dead h. (
       q.ends reply notice dead h.0,
       λ slot number c there names. absurd (names_none s dead h.0 slot number c there names),
@@ -395,7 +398,8 @@ module _ (before : Switch) (stand : LegsStand (roles_of before)) (left : has_num
     gave = λ frame h. ((kept.commands conn).gave frame h.0, h.1);
     asked = λ change {s = s} h. ((kept.commands conn).asked change h.0, conn_berthed (with_subs_changed change) conn s h.1);
     admitted = λ {s = s} fresh h. ((kept.commands conn).admitted fresh h.0, conn_berthed admitted conn s h.1);
-    parted = λ why {s = s} leaves h. ((kept.commands conn).parted why leaves h.0, conn_berthed (parted why) conn s h.1);
+    parted = λ why {s = s} leaves was h.
+        ((kept.commands conn).parted why leaves (let_go_by was (λ t k. k.0)) h.0, conn_berthed (parted why) conn s h.1);
     backgrounds = λ given command {s = s} free h. (
       (kept.commands conn).backgrounds given command free h.0,
       roles_berthed s (background_begun given command s) (background_roles given command s) h.1,
@@ -411,8 +415,13 @@ module _ (before : Switch) (stand : LegsStand (roles_of before)) (left : has_num
     visits = record {
       arrived = λ h. (kept.visits.arrived h.0, h.1);
       taken = λ conn h. (kept.visits.taken conn h.0, h.1);
-      silent = λ conn {s = s} h. (kept.visits.silent conn h.0, conn_berthed (parted parting.EndOfInput) conn s h.1);
-      left = λ conn h. (kept.visits.left conn h.0, h.1);
+      holds = λ slot c text {s = s} there waits free h. (
+        kept.visits.holds slot c text there waits free h.0,
+        put_berthed NoSlot (roles_of s) slot c (held_by (coming_number s) c) there (λ number is. is) h.1,
+      );
+      silent = λ conn {s = s} was h.
+          (kept.visits.silent conn (let_go_by was (λ t k. k.0)) h.0, conn_berthed (parted parting.EndOfInput) conn s h.1);
+      left = λ conn was h. (kept.visits.left conn (let_go_by was (λ t k. k.0)) h.0, h.1);
       halted = λ reply notice {s = s} dead h. (
         kept.visits.halted reply notice dead h.0,
         λ slot number c there names. absurd (names_none s dead h.0 slot number c there names),

@@ -248,7 +248,7 @@ peerless_bonds slot s peerless h =
     given_up_kept (λ (u : Switch). Bonds u × Holds IsPeerless u slot) (λ number u k. k) slot awaited s (h, peerless) in
     changed_there (λ (u : Switch). Bonds u) at_leisure slot t
     (λ c is. same_put t.channels t.bridges slot c (at_leisure c) is
-    (peerless_apt c (at_leisure c) (k.1 c is) refl refl refl (λ none. rest_dials c.socket c.state) (k.0.apt slot c is)) refl refl
+    (peerless_apt c (at_leisure c) (k.1 c is) refl refl refl (λ none. rest_dials None c.state) (k.0.apt slot c is)) refl refl
     (λ live. live) k.0) k.0
 
 pub departed_bonds : (slot : ℕ) (s : Switch) → Bonds s → Bonds (after_departure slot s)

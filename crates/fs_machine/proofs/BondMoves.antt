@@ -14,6 +14,7 @@ use Rattle.fs_chan.specs.declared.peer.Peer.{Peer}
 use Rattle.fs_chan.specs.declared.wait.Wait.TheVariants.{Ready, Bridged}
 use Rattle.fs_chan.specs.Bridging.{awaiting, awaited_by, exported_pairs, with_disposition, bridged, in_media, at_leisure}
 use Rattle.fs_chan.specs.Changes.{is_live, at_rest}
+use Rattle.fs_chan.specs.Controlling.{held_by}
 use Rattle.fs_orig.specs.declared.leg.OrigLeg.{OrigLeg}
 use Rattle.fs_orig.specs.declared.orig.Owner.TheVariants as owner
 use Rattle.fs_orig.specs.declared.plan.LegPlan.{LegPlan}
@@ -38,10 +39,10 @@ use Rattle.fs_machine.specs.Bridging.{caller_of, group_dialed, goes_on, after_go
 use Rattle.fs_machine.specs.Bridging.{after_bridge_win}
 use Rattle.fs_machine.specs.Dialing.{tried_by_slot}
 use Rattle.fs_machine.specs.Joining.{after_leaving}
-use Rattle.fs_machine.proofs.Kept.{Stage, Links, IsApt, IsAtWork, KeptByTouches, KeptByCalls, KeptByBirths, KeptByDials, KeptByMoves, raced}
-use Rattle.fs_machine.proofs.Kept.{HasWon}
+use Rattle.fs_machine.proofs.Kept.{Stage, Links, IsApt, IsAtWork, Keeps, KeptByTouches, KeptByCalls, KeptByBirths, KeptByDials}
+use Rattle.fs_machine.proofs.Kept.{KeptByMoves, raced, HasWon}
 use Rattle.fs_machine.proofs.StayLemmas.{WorksAt, is_at_work, exchange_lives, execute_lives, routing_lives, state_told_kept, moved_there}
-use Rattle.fs_machine.proofs.StayLemmas.{changed_there}
+use Rattle.fs_machine.proofs.StayLemmas.{changed_there, held_keeps}
 use Rattle.fs_machine.proofs.StayLemmas.{orig_changed_channels}
 use Rattle.fs_machine.proofs.HangLemmas.{given_up_kept}
 use Rattle.fs_machine.proofs.JoinLemmas.{both_left_kept, rest_dials}
@@ -104,13 +105,18 @@ awaits_lone s slot orig is h c there =
 
 -- ---- what happens to channels
 
+-- a channel keeps what others know of it
+keeps_bonds : {b : Stage} (slot : ℕ) (old new : Chan) (s : Switch) → chan_at s slot ≡ Some old → Keeps b old new → Bonds s →
+    Bonds (with_chan slot (Some new) s)
+keeps_bonds slot old new s there keeps h =
+    same_put s.channels s.bridges slot old new there (keeps.apt (h.apt slot old there)) (ap (λ (l : Links). l.uuid) keeps.links)
+    (ap (λ (l : Links). l.peer) keeps.links) (λ live. keeps.live ∙ live) h
+
 pub bonds_touches : KeptByTouches Bonding
 bonds_touches = record {
   told = λ event plain h. h;
   globals = λ globals h. h;
-  changed = λ slot old new {s = s} there stays h.
-      same_put s.channels s.bridges slot old new there (stays.apt (h.apt slot old there)) (ap (λ (l : Links). l.uuid) stays.links)
-      (ap (λ (l : Links). l.peer) stays.links) (λ live. stays.live ∙ live) h;
+  changed = λ slot old new {s = s} there stays h. keeps_bonds slot old new s there stays.keeps h;
   answers = λ seat slot number {s = s} h.
       as_front s (orig_changed (leg_changed (λ position. with_answer position seat) slot) number s)
       (orig_changed_front (leg_changed (λ position. with_answer position seat) slot) number s) h;
@@ -135,7 +141,7 @@ left_bonds slot s none h = by (chan_at t slot) refl
         let peerless : c.peer ≡ None = apart_peerless t slot k.1 k.0 c is in
         closed (with_held t.channels slot (Some (at_leisure c))) t.bridges
         (lone_put NoSlot NoSlot t.channels t.bridges slot c (at_leisure c) is k.1
-        (peerless_apt c (at_leisure c) peerless refl refl refl (λ none. rest_dials c.socket c.state) (k.0.apt slot c is)) peerless
+        (peerless_apt c (at_leisure c) peerless refl refl refl (λ none. rest_dials None c.state) (k.0.apt slot c is)) peerless
         (λ at no. absurd no) (λ at no. absurd no) (opened t.channels t.bridges k.0))
 
     by : (found : Option Chan) → chan_at t slot ≡ found → Bonds (with_changed_chan_from at_leisure slot found t)
@@ -296,8 +302,8 @@ dialed_touches slot = record {
   globals = λ globals h. record { bonds = h.bonds; peerless = h.peerless; lone = h.lone };
   changed = λ seat old new {b = b} {s = s} there stays h. record {
     bonds = bonds_touches.changed seat old new {b = b} {s = s} there stays h.bonds;
-    peerless = peerless_kept s.channels slot seat old new there (λ none. ap (λ (l : Links). l.peer) stays.links ∙ none) h.peerless;
-    lone = lone_kept s.channels slot seat old new there (λ none. ap (λ (l : Links). l.leg_of) stays.links ∙ none) h.lone;
+    peerless = peerless_kept s.channels slot seat old new there (λ none. ap (λ (l : Links). l.peer) stays.keeps.links ∙ none) h.peerless;
+    lone = lone_kept s.channels slot seat old new there (λ none. ap (λ (l : Links). l.leg_of) stays.keeps.links ∙ none) h.lone;
   };
   answers = λ seat leg number {s = s} h.
       let same = sym (orig_changed_channels (leg_changed (λ position. with_answer position seat) leg) number s) in
@@ -439,3 +445,4 @@ bonds_moves before stand =
     (λ job who winner caller orig leg slots does won h.
     won_bonds winner (unwrap_or leg.slot 0) (raced slots before) (winner_peerless before orig leg slots stand won h) h)
     (λ s h. as_bonds s (with_next_identifier s) refl refl h)
+    (λ slot conn c text s there waits h. keeps_bonds slot c (held_by conn c) s there (held_keeps {b = None} conn c text waits) h)

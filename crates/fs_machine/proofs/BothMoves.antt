@@ -3,7 +3,7 @@ use Rattle.std.proofs.Common.{ℕ}
 use Rattle.fs_state.specs.Switch.{Switch}
 use Rattle.fs_machine.specs.declared.owing.Giver.{Giver}
 use Rattle.fs_machine.specs.declared.owing.Giver.TheVariants as giver
-use Rattle.fs_machine.proofs.Kept.{apart_by, goes_on_by, Fact, KeptByTouches, KeptByCalls, KeptByApi, KeptByJobs, KeptByDials}
+use Rattle.fs_machine.proofs.Kept.{apart_by, goes_on_by, let_go_by, Fact, KeptByTouches, KeptByCalls, KeptByApi, KeptByJobs, KeptByDials}
 use Rattle.fs_machine.proofs.Kept.{KeptByCommands, KeptByVisits, KeptByMoves}
 
 abbrev pub Both : Fact → Fact → Fact
@@ -47,6 +47,7 @@ module _ (P Q : Fact) where
       p.originates groups winner caller timeout (goes_on_by (Both P Q) P by s may (λ t k. k.0)) are short room h.0,
       q.originates groups winner caller timeout (goes_on_by (Both P Q) Q by s may (λ t k. k.1)) are short room h.1,
     );
+    leavings = λ h. (p.leavings h.0, q.leavings h.1);
     ends = λ reply notice dead h. (p.ends reply notice dead h.0, q.ends reply notice dead h.1);
   }
 
@@ -80,7 +81,8 @@ module _ (P Q : Fact) where
     gave = λ frame h. (p.gave frame h.0, q.gave frame h.1);
     asked = λ change h. (p.asked change h.0, q.asked change h.1);
     admitted = λ fresh h. (p.admitted fresh h.0, q.admitted fresh h.1);
-    parted = λ why leaves h. (p.parted why leaves h.0, q.parted why leaves h.1);
+    parted = λ why leaves was h.
+        (p.parted why leaves (let_go_by was (λ t k. k.0)) h.0, q.parted why leaves (let_go_by was (λ t k. k.1)) h.1);
     backgrounds = λ given command room h. (p.backgrounds given command room h.0, q.backgrounds given command room h.1);
   }
 
@@ -88,8 +90,9 @@ module _ (P Q : Fact) where
   both_visits p q = record {
     arrived = λ h. (p.arrived h.0, q.arrived h.1);
     taken = λ conn h. (p.taken conn h.0, q.taken conn h.1);
-    silent = λ conn h. (p.silent conn h.0, q.silent conn h.1);
-    left = λ conn h. (p.left conn h.0, q.left conn h.1);
+    holds = λ slot c text there waits room h. (p.holds slot c text there waits room h.0, q.holds slot c text there waits room h.1);
+    silent = λ conn was h. (p.silent conn (let_go_by was (λ t k. k.0)) h.0, q.silent conn (let_go_by was (λ t k. k.1)) h.1);
+    left = λ conn was h. (p.left conn (let_go_by was (λ t k. k.0)) h.0, q.left conn (let_go_by was (λ t k. k.1)) h.1);
     halted = λ reply notice dead h. (p.halted reply notice dead h.0, q.halted reply notice dead h.1);
   }
 

@@ -92,7 +92,7 @@ module _ (past : List Event) where
     globals = λ globals h. h;
     joins = λ kind caller answerer {s = s} can h. joined_tells past kind caller answerer s can h;
     parts = λ slot row {s = s} part h. parted_tells past slot row s part h;
-    remains = λ slot old new there remains h. h;
+    remains = λ slot old new there remains holder h. h;
     hung = λ named {s = s} h. hung_tells past named s h;
     more = λ h. h;
     gone = λ slot old there dead h. h;
@@ -112,10 +112,10 @@ module _ (past : List Event) where
   pub telling_moves : (before : Switch) → KeptByMoves before (Telling past)
   telling_moves before =
       moves_by_front before (Telling past) front_tells
-      (calls_by_remains before (Telling past) front_tells remains_tell births_tell
+      (calls_by_remains before (Telling past) (λ b t u h e conns. front_tells b t u h e) remains_tell births_tell
       (λ slot u lively h. moved_tells past (λ number. 0) in_media slot u h))
       births_tell
-      (dials_by_remains before (Telling past) front_tells remains_tell births_tell
+      (dials_by_remains before (Telling past) (λ b t u h e conns. front_tells b t u h e) remains_tell births_tell
       (λ slot u lively h. moved_tells past (λ number. 0) in_media slot u h))
       (λ job who winner caller orig leg slots does won h. won_tells winner (unwrap_or leg.slot 0) (raced slots before) h)
-      (λ s h. same_tells past (λ number. 0) s (with_next_identifier s) refl h)
+      (λ s h. same_tells past (λ number. 0) s (with_next_identifier s) refl h) (λ slot conn c text s there waits h. h)

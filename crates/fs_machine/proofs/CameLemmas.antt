@@ -1,5 +1,5 @@
 -- What is left of channels where some were hung up: none comes to name an origination, or to wait for one, or for the end of a bridge.
-use Rattle.std.proofs.Common.{◌≡◌, ℕ, Bool, List, Option, Some, inl, inr, option_and_then, sym, ap, ◌∙◌}
+use Rattle.std.proofs.Common.{◌≡◌, ℕ, Bool, List, Option, None, Some, inl, inr, option_and_then, sym, ap, ◌∙◌}
 use Rattle.std.proofs.lemmas.Option.{none-some, same_Some}
 use Rattle.fs_text.specs.declared.states.State.{State}
 use Rattle.fs_text.specs.declared.states.State.TheVariants.{CsPark}
@@ -61,8 +61,8 @@ freed_less cause c = record { names = λ number is. is; waits = λ number is. is
 pub leisure_less : (c : Chan) → IsLess c (at_leisure c)
 leisure_less c = record {
   names = λ number is. is;
-  waits = λ number is. absurd (none-some number (sym (rest_dials c.socket c.state) ∙ is));
-  holds = λ is. absurd (rest_holds c.socket c.state is);
+  waits = λ number is. absurd (none-some number (sym (rest_dials None c.state) ∙ is));
+  holds = λ is. absurd (rest_holds None c.state is);
 }
 
 pub falls_less : (hangs : ℕ → Bool) (slot : ℕ) (old new : Chan) → Falls hangs slot old new → IsLess old new

@@ -401,6 +401,7 @@ told_api by = record {
   draws = λ h. h;
   sleeps = λ until {s = s} may room h. owing_told by (Sleep until) s h;
   originates = λ groups winner caller timeout {s = s} may are short room h. originates_told by groups winner caller timeout s are h;
+  leavings = λ h. h;
   ends = λ reply notice {s = s} dead h. none_told (length s.origs);
 }
 
@@ -447,14 +448,15 @@ told_moves before = record {
     gave = λ frame h. h;
     asked = λ change {s = s} h. conn_told (with_subs_changed change) conn s h;
     admitted = λ {s = s} fresh h. conn_told admitted conn s h;
-    parted = λ why {s = s} leaves h. conn_told (parted why) conn s h;
+    parted = λ why {s = s} leaves was h. conn_told (parted why) conn s h;
     backgrounds = λ given command {s = s} room h. background_told given command s h;
   };
   visits = record {
     arrived = λ h. h;
     taken = λ conn h. h;
-    silent = λ conn {s = s} h. conn_told (parted parting.EndOfInput) conn s h;
-    left = λ conn h. h;
+    holds = λ slot c text there waits room h. h;
+    silent = λ conn {s = s} was h. conn_told (parted parting.EndOfInput) conn s h;
+    left = λ conn was h. h;
     halted = λ reply notice {s = s} dead h. none_told (length s.origs);
   };
 }

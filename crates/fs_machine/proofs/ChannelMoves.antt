@@ -8,6 +8,7 @@ use Rattle.fs_bridge.specs.Closure.{Members}
 use Rattle.fs_chan.specs.declared.chan.Chan.{Chan}
 use Rattle.fs_chan.specs.Bridging.{in_media}
 use Rattle.fs_chan.specs.Changes.{is_live, HasShortFields}
+use Rattle.fs_chan.specs.Controlling.{held_by}
 use Rattle.fs_orig.specs.declared.caller.Caller.{Caller}
 use Rattle.fs_orig.specs.declared.leg.OrigLeg.{OrigLeg}
 use Rattle.fs_orig.specs.declared.winner.Winner.{Winner}
@@ -30,7 +31,7 @@ use Rattle.fs_machine.proofs.ClosureLemmas.{hangs_up}
 use Rattle.fs_machine.proofs.HangLemmas.{dies, Falls, Cut, Unbridged, Rests, Parks, hangups_kept}
 use Rattle.fs_machine.proofs.NameLemmas.{leg_uuid_short, leg_chan, far_chan, with_leg, pair_channels}
 use Rattle.fs_machine.proofs.FrontLemmas.{Front, front_of, orig_changed_front, Lively, KeptByRemains, joins_by_remains, calls_by_remains}
-use Rattle.fs_machine.proofs.FrontLemmas.{dials_by_remains, parts_by_remains}
+use Rattle.fs_machine.proofs.FrontLemmas.{dials_by_remains, parts_by_remains, held_remains}
 use Rattle.fs_machine.proofs.FrontLemmas.{moves_by_front}
 use Rattle.fs_machine.proofs.RestLemmas.{hung_rest}
 use Rattle.fs_machine.proofs.LegLemmas.{roles_of, LegsStand}
@@ -149,12 +150,12 @@ remains_moves = record {
   told = λ event plain h. h;
   globals = λ globals h. h;
   joins = λ kind caller answerer {b = b} {s = s} can h.
-      joins_by_remains Fit (λ event b t k. k) (λ rows b t k. k) (λ slot old new b t there remains k. put slot old new t there remains k)
-      kind caller answerer b s h;
+      joins_by_remains Fit (λ event b t k. k) (λ rows b t k. k)
+      (λ slot old new b t there remains holder k. put slot old new t there remains k) kind caller answerer b s h;
   parts = λ slot row {b = b} {s = s} part h.
-      parts_by_remains Fit (λ event b t k. k) (λ rows b t k. k) (λ slot old new b t there remains k. put slot old new t there remains k)
-      row b s h;
-  remains = λ slot old new {s = s} there remains h. put slot old new s there remains h;
+      parts_by_remains Fit (λ event b t k. k) (λ rows b t k. k)
+      (λ slot old new b t there remains holder k. put slot old new t there remains k) row b s h;
+  remains = λ slot old new {s = s} there remains holder h. put slot old new s there remains h;
   hung = λ named {s = s} h. hung_fit named s h;
   more = λ h. h;
   gone = λ slot old {s = s} there dead h. each_put FitsIn s.channels slot None h tt;
@@ -176,8 +177,12 @@ fit_same b t u h same = same_fit (front_of t) (front_of u) same h
 pub fit_moves : (before : Switch) → LegsStand (roles_of before) → WinnersAreShort before.jobs → KeptByMoves before Fit
 fit_moves before stand winners =
     moves_by_front before Fit fit_same
-    (calls_by_remains before Fit fit_same remains_moves births_fit (λ slot u lively h. media_fit slot u lively h)) births_fit
-    (dials_by_remains before Fit fit_same remains_moves births_fit (λ slot u lively h. media_fit slot u lively h))
+    (calls_by_remains before Fit (λ b t u h e conns. fit_same b t u h e) remains_moves births_fit
+    (λ slot u lively h. media_fit slot u lively h)) births_fit
+    (dials_by_remains before Fit (λ b t u h e conns. fit_same b t u h e) remains_moves births_fit
+    (λ slot u lively h. media_fit slot u lively h))
     (λ job who winner caller orig leg slots does won h. wins_fit job who winner caller orig leg slots before does
     (winner_lively before orig leg slots won stand) winners h)
     (λ s h. h)
+    (λ slot conn c text s there waits h. put_fit slot (held_by conn c) s
+    (remains_fit c (held_by conn c) (held_remains conn c text waits) (fit_there s slot c there h)) h)

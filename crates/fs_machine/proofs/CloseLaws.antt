@@ -1,6 +1,6 @@
 -- When a connection is ending, and can be closed.
 use Rattle.std.proofs.Common.{◌≡◌, ◌≢◌, ℕ, ◌==◌, Bool, true, false, not, ◌||◌, List, [], length, Option, None, Some, is_some, refl, sym, ap}
-use Rattle.std.proofs.Common.{subst, ◌∙◌}
+use Rattle.std.proofs.Common.{◌⊎◌, inl, inr, subst, ◌∙◌}
 use Rattle.std.specs.Option.{option_and_then}
 use Rattle.std.proofs.lemmas.Option.{none-some}
 use Rattle.fs_seats.specs.Rows.{seat_of, row_of, with_row}
@@ -14,10 +14,14 @@ use Rattle.fs_state.specs.Switch.{Switch, conn_of, waiting_for, at_moment}
 use Rattle.fs_machine.specs.declared.entry.Act.TheVariants.{Take, Close}
 use Rattle.fs_machine.specs.declared.entry.Closing.TheVariants.{EndOfInput, Sent}
 use Rattle.fs_machine.specs.declared.refusal.Refusal.TheVariants as refusal
-use Rattle.fs_machine.specs.Connections.{phase_of, phase_at, parted, conn_changed_from}
+use Rattle.fs_machine.specs.Connections.{phase_of, phase_at, parted, conn_changed, conn_changed_from}
+use Rattle.fs_machine.specs.Controlling.{after_letting_go, after_leavings}
 use Rattle.fs_machine.specs.Questions.{owed_of, owes}
 use Rattle.fs_machine.specs.Owed.{PartsIn, Parts, AreOwed}
-use Rattle.fs_machine.specs.Step.{step, reads, is_closed, is_ending, refused_where, refused_act}
+use Rattle.fs_machine.specs.Step.{Acted, step, reads, is_closed, is_ending, refused_where, refused_act}
+use Rattle.fs_machine.proofs.ControlLemmas.{behind_owed}
+use Rattle.fs_machine.proofs.KeepLemmas.{Sockets, IsLeft, IsStopped, left_settles, freed_sockets}
+use Rattle.fs_machine.proofs.LeftLemmas.{NoneLeft, take_done}
 
 -- one that is there and reads no commands is ending
 ending_in : (c : Conn) → Parts c → reads c.phase ≡ false → c.phase ≡ Ending
@@ -48,26 +52,49 @@ changed_at s conn c d is = by (seat_of s.conns conn) refl
 abbrev owed_in : Option Conn → Bool
 owed_in found = is_some (option_and_then owed_of found)
 
+-- one that is ending is so where others part
+ending_stays : (s : Switch) (conn : ℕ) → phase_at s conn ≡ Ending → phase_at (after_leavings s) conn ≡ Ending
+ending_stays s conn ending = by (left_settles s conn).way
+  where
+    by : IsLeft (conn_of s conn) (conn_of (after_leavings s) conn) ⊎ IsStopped (conn_of s conn) (conn_of (after_leavings s) conn) →
+        phase_at (after_leavings s) conn ≡ Ending
+    by (inl stays) = stays.phase ∙ ending
+    by (inr stops) = stops.ending
+
 -- the end of its input parts one that reads commands, and changes nothing in what it is owed
 pub end_parts : (s : Switch) (moment conn : ℕ) → reads (phase_at s conn) ≡ true → owes s conn ≡ false →
     (phase_at (step s (record { moment = moment; act = Close conn EndOfInput })).state conn ≡ Ending) × (owes
     (step s (record { moment = moment; act = Close conn EndOfInput })).state conn ≡ false)
 unfolding step
-end_parts s moment conn reading free = by (conn_of s conn) refl
+end_parts s moment conn reading owes_none =
+    (ending_stays silent conn parts.0, ap is_some (behind_owed silent conn) ∙ parts.1)
   where
-    by : (found : Option Conn) → conn_of s conn ≡ found →
-        (phase_at (conn_changed_from (parted parting.EndOfInput) conn found (at_moment moment s)) conn ≡ Ending)
-        × (owes (conn_changed_from (parted parting.EndOfInput) conn found (at_moment moment s)) conn ≡ false)
-    by None is =
-        let closed : reads Closed ≡ true = ap (λ (found : Option Conn). reads (phase_of found)) (sym is) ∙ reading in absurd (cc closed)
-    by (Some c) is = let there = changed_at s conn c (parted parting.EndOfInput c) is in
-        (ap phase_of there, ap owed_in there ∙ sym (ap owed_in is) ∙ free)
+    free : Switch
+    free = after_letting_go conn (at_moment moment s)
 
--- taking a frame leaves the phase
-pub take_leaves_phase : (s : Switch) (moment conn : ℕ) →
+    silent : Switch
+    silent = conn_changed (parted parting.EndOfInput) conn free
+
+    same : conn_of free conn ≡ conn_of s conn
+    same = ap (λ (x : Sockets). row_of x.conns conn) (freed_sockets conn (at_moment moment s))
+
+    by : (found : Option Conn) → conn_of free conn ≡ found →
+        (phase_at (conn_changed_from (parted parting.EndOfInput) conn found free) conn ≡ Ending)
+        × (owes (conn_changed_from (parted parting.EndOfInput) conn found free) conn ≡ false)
+    by None is =
+        let closed : reads Closed ≡ true =
+        ap (λ (found : Option Conn). reads (phase_of found)) (sym is ∙ same) ∙ reading in absurd (cc closed)
+    by (Some c) is = let there = changed_at free conn c (parted parting.EndOfInput c) is in
+        (ap phase_of there, ap owed_in there ∙ ap owed_in (sym is ∙ same) ∙ owes_none)
+
+    parts : (phase_at silent conn ≡ Ending) × (owes silent conn ≡ false)
+    parts = by (conn_of free conn) refl
+
+-- taking a frame leaves the phase, where no connection stands whose channel has left it
+pub take_leaves_phase : (s : Switch) (moment conn : ℕ) → NoneLeft s →
     phase_at (step s (record { moment = moment; act = Take conn })).state conn ≡ phase_at s conn
 unfolding step
-take_leaves_phase s moment conn = refl
+take_leaves_phase s moment conn none = ap (λ (done : Acted). phase_at done.state conn) (take_done conn (at_moment moment s) none)
 
 -- something is still to be sent, or it may give commands
 abbrev unsent_in : Phase → ℕ → Bool → Bool

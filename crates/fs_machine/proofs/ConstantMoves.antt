@@ -47,7 +47,7 @@ same_moves s =
     (λ job who winner caller orig leg slots does won h.
     by_rest (raced slots s) (after_winning winner (unwrap_or leg.slot 0) (raced slots s))
     (won_rest winner (unwrap_or leg.slot 0) (raced slots s)) ∙ h)
-    (λ t h. h)
+    (λ t h. h) (λ slot conn c text t there waits h. h)
 
 pub acted_constants : (act : Act) (s : Switch) → constants_of (act_done act s).state ≡ constants_of s
 acted_constants act s = acted_kept s (Same s) (same_moves s) act refl

@@ -1,8 +1,9 @@
 -- Whoever has something to do is not refused it, and what is due later is due once its moment has come.
 use Rattle.std.proofs.Common.{◌≡◌, ℕ, ◌<◌, max, leb, Bool, true, false, List, Option, None, Some, ◌⊎◌, inl, inr, refl, sym, ap, subst, ◌∙◌}
-use Rattle.std.proofs.Common.{arith, if◌then◌else◌}
+use Rattle.std.proofs.Common.{arith, if◌then◌else◌, is_none, true≢false}
 use Rattle.std.specs.Option.{option_and_then}
-use Rattle.std.proofs.lemmas.Bool.{both_ways}
+use Rattle.std.specs.Prelude.{◌||◌, is_some}
+use Rattle.std.proofs.lemmas.Bool.{both_ways, or_cases, false≢true}
 use Rattle.std.proofs.lemmas.Option.{none-some, same_Some}
 use Rattle.fs_chan.specs.declared.chan.Chan.{Chan}
 use Rattle.fs_chan.specs.declared.due.Due.{Due}
@@ -35,11 +36,13 @@ use Rattle.fs_state.specs.Switch.{Switch, empty, chan_at, orig_of, job_of, at_mo
 use Rattle.fs_machine.specs.declared.due.DueActor.{DueActor}
 use Rattle.fs_machine.specs.declared.due.DueActor.TheVariants as actor
 use Rattle.fs_machine.specs.declared.entry.Entry.{Entry}
-use Rattle.fs_machine.specs.declared.entry.Act.TheVariants.{Work, Job as Works}
+use Rattle.fs_machine.specs.declared.entry.Act.TheVariants.{Dialed, Work, Job as Works}
+use Rattle.fs_machine.specs.declared.refusal.Refusal.TheVariants as refusal
+use Rattle.fs_machine.specs.Controlling.{dial_at}
 use Rattle.fs_machine.specs.Due.{slot_due, orig_due, due_wanting, due_by, work_due, job_due, is_now, later_of, is_due, due_slot, chan_moment, row_moment}
 use Rattle.fs_machine.specs.Due.{number_where, due_number, due_job, first_chan_moment, first_job_moment, actor_or, later_or_never}
-use Rattle.fs_machine.specs.Due.{due_among_all, next_due}
-use Rattle.fs_machine.specs.Step.{not_due, refused_act}
+use Rattle.fs_machine.specs.Due.{dials, turn_of, due_among_all, next_due}
+use Rattle.fs_machine.specs.Step.{refused_where, not_due, refused_act}
 use Rattle.fs_machine.specs.Runs.{run_from, IsRunFrom}
 use Rattle.fs_machine.proofs.DueLemmas.{next_to_come}
 use Rattle.fs_machine.proofs.OwedBooks.{books_of, Sound}
@@ -68,11 +71,21 @@ now_accepted None is = absurd (cc)
 now_accepted (Some Now) is = refl
 now_accepted (Some (At moment)) is = absurd (cc)
 
-slot_works : (s : Switch) (slot : ℕ) → due_slot s ≡ Some slot → refused_act (Work slot) s ≡ None
-slot_works s slot is =
+-- one that has something to do, and waits for no controller
+slot_works : (s : Switch) (slot : ℕ) → due_slot s ≡ Some slot → dials (chan_at s slot) ≡ false → refused_act (Work slot) s ≡ None
+slot_works s slot is waits =
     let found = seat_found (is_due s) s.channels 0 slot is in
     let same : found.0 ≡ slot = omega (arith, found.1) in
-    now_accepted (slot_due slot s) (subst (λ n. is_now (slot_due n s) ≡ true) same found.2)
+    let due : is_due s (chan_at s slot) ≡ true = subst (λ n. is_due s (chan_at s n) ≡ true) same found.2 in
+    elim (or_cases (is_now (slot_due slot s)) (dials (chan_at s slot)) due) [
+      | inl now ↦ now_accepted (slot_due slot s) now
+      | inr dialing ↦ absurd (true≢false (sym dialing ∙ waits))
+    ]
+
+-- one for whom a controller is to be dialed
+dial_accepted_for : (waits : Option Text) → is_some waits ≡ true → refused_where (is_none waits) (refusal.NotDue None) None ≡ None
+dial_accepted_for None is = absurd (false≢true is)
+dial_accepted_for (Some text) is = refl
 
 job_works : (s : Switch) (number : ℕ) → AreKnown s → due_job s ≡ Some number → refused_act (Works number) s ≡ None
 job_works s number are is = let found = least_held (due_number s) s.jobs number is in at found.0 (held_in s.jobs found.0) refl found.1
@@ -92,26 +105,67 @@ job_works s number are is = let found = least_held (due_number s) s.jobs number 
     at seat None there e = absurd (none-some number e)
     at seat (Some row) there e = by row (are.known seat row there) (is_now (work_due s row.held.work)) refl e
 
-slot_among : (slot job moment : Option ℕ) (n : ℕ) →
-    actor_or actor.Slot slot (actor_or actor.Job job (later_or_never moment)) ≡ actor.Slot n → slot ≡ Some n
-slot_among (Some slot) job moment n is = let same : slot ≡ n = cc is in ap Some same
-slot_among None (Some job) moment n is = absurd (cc is)
-slot_among None None (Some moment) n is = absurd (cc is)
-slot_among None None None n is = absurd (cc is)
+-- whose turn it is: a channel that has something to do waits for no controller, and one waits for whom a controller is to be dialed
+slot_turn : (waits : Bool) (slot n : ℕ) → (if waits then actor.Dial slot else actor.Slot slot) ≡ actor.Slot n →
+    (waits ≡ false) × (slot ≡ n)
+slot_turn true slot n is = absurd (cc is)
+slot_turn false slot n is = let same : slot ≡ n = cc is in (refl, same)
 
-job_among : (slot job moment : Option ℕ) (n : ℕ) → actor_or actor.Slot slot (actor_or actor.Job job (later_or_never moment)) ≡ actor.Job n →
-    job ≡ Some n
-job_among (Some slot) job moment n is = absurd (cc is)
-job_among None (Some job) moment n is = let same : job ≡ n = cc is in ap Some same
-job_among None None (Some moment) n is = absurd (cc is)
-job_among None None None n is = absurd (cc is)
+dial_turn : (waits : Bool) (slot n : ℕ) → (if waits then actor.Dial slot else actor.Slot slot) ≡ actor.Dial n →
+    (waits ≡ true) × (slot ≡ n)
+dial_turn true slot n is = let same : slot ≡ n = cc is in (refl, same)
+dial_turn false slot n is = absurd (cc is)
+
+no_job_turn : (waits : Bool) (slot n : ℕ) → (if waits then actor.Dial slot else actor.Slot slot) ≡ actor.Job n → ⊥
+no_job_turn true slot n is = absurd (cc is)
+no_job_turn false slot n is = absurd (cc is)
+
+no_later_turn : (waits : Bool) (slot n : ℕ) → (if waits then actor.Dial slot else actor.Slot slot) ≡ actor.Later n → ⊥
+no_later_turn true slot n is = absurd (cc is)
+no_later_turn false slot n is = absurd (cc is)
+
+slot_among : (s : Switch) (slot job moment : Option ℕ) (n : ℕ) →
+    actor_or (turn_of s) slot (actor_or actor.Job job (later_or_never moment)) ≡ actor.Slot n →
+    (slot ≡ Some n) × (dials (chan_at s n) ≡ false)
+slot_among s (Some slot) job moment n is =
+    let turn = slot_turn (dials (chan_at s slot)) slot n is in
+    (ap Some turn.1, subst (λ at. dials (chan_at s at) ≡ false) turn.1 turn.0)
+slot_among s None (Some job) moment n is = absurd (cc is)
+slot_among s None None (Some moment) n is = absurd (cc is)
+slot_among s None None None n is = absurd (cc is)
+
+dial_among : (s : Switch) (slot job moment : Option ℕ) (n : ℕ) →
+    actor_or (turn_of s) slot (actor_or actor.Job job (later_or_never moment)) ≡ actor.Dial n → dials (chan_at s n) ≡ true
+dial_among s (Some slot) job moment n is =
+    let turn = dial_turn (dials (chan_at s slot)) slot n is in
+    subst (λ at. dials (chan_at s at) ≡ true) turn.1 turn.0
+dial_among s None (Some job) moment n is = absurd (cc is)
+dial_among s None None (Some moment) n is = absurd (cc is)
+dial_among s None None None n is = absurd (cc is)
+
+job_among : (s : Switch) (slot job moment : Option ℕ) (n : ℕ) →
+    actor_or (turn_of s) slot (actor_or actor.Job job (later_or_never moment)) ≡ actor.Job n → job ≡ Some n
+job_among s (Some slot) job moment n is = absurd (no_job_turn (dials (chan_at s slot)) slot n is)
+job_among s None (Some job) moment n is = let same : job ≡ n = cc is in ap Some same
+job_among s None None (Some moment) n is = absurd (cc is)
+job_among s None None None n is = absurd (cc is)
 
 -- the slot that has something to do does it
 pub slot_accepted : (s : Switch) (now slot : ℕ) → next_due now s ≡ actor.Slot slot → refused_act (Work slot) (at_moment now s) ≡ None
 unfolding next_due
 slot_accepted s now slot is =
     let t = at_moment now s in
-    slot_works t slot (slot_among (due_slot t) (due_job t) (lesser (first_chan_moment t) (first_job_moment t)) slot is)
+    let turn = slot_among t (due_slot t) (due_job t) (lesser (first_chan_moment t) (first_job_moment t)) slot is in
+    slot_works t slot turn.0 turn.1
+
+-- for the channel that waits for it a controller is dialed
+pub dial_accepted : (s : Switch) (now slot : ℕ) (linked : Bool) → next_due now s ≡ actor.Dial slot →
+    refused_act (Dialed slot linked) (at_moment now s) ≡ None
+unfolding next_due
+dial_accepted s now slot linked is =
+    let t = at_moment now s in
+    dial_accepted_for (dial_at t slot)
+    (dial_among t (due_slot t) (due_job t) (lesser (first_chan_moment t) (first_job_moment t)) slot is)
 
 -- and so does the job
 pub job_accepted : (s : Switch) (now number : ℕ) → AreKnown s → next_due now s ≡ actor.Job number →
@@ -120,16 +174,16 @@ unfolding next_due
 job_accepted s now number are is =
     let t = at_moment now s in
     job_works t number (record { known = are.known })
-    (job_among (due_slot t) (due_job t) (lesser (first_chan_moment t) (first_job_moment t)) number is)
+    (job_among t (due_slot t) (due_job t) (lesser (first_chan_moment t) (first_job_moment t)) number is)
 
 -- ---- what is due later
 
-later_among : (slot job found : Option ℕ) (moment : ℕ) →
-    actor_or actor.Slot slot (actor_or actor.Job job (later_or_never found)) ≡ actor.Later moment → found ≡ Some moment
-later_among (Some slot) job found moment is = absurd (cc is)
-later_among None (Some job) found moment is = absurd (cc is)
-later_among None None (Some found) moment is = let same : found ≡ moment = cc is in ap Some same
-later_among None None None moment is = absurd (cc is)
+later_among : (s : Switch) (slot job found : Option ℕ) (moment : ℕ) →
+    actor_or (turn_of s) slot (actor_or actor.Job job (later_or_never found)) ≡ actor.Later moment → found ≡ Some moment
+later_among s (Some slot) job found moment is = absurd (no_later_turn (dials (chan_at s slot)) slot moment is)
+later_among s None (Some job) found moment is = absurd (cc is)
+later_among s None None (Some found) moment is = let same : found ≡ moment = cc is in ap Some same
+later_among s None None None moment is = absurd (cc is)
 
 later_at : (due : Option Due) (n : ℕ) → later_of due ≡ Some n → due ≡ Some (At n)
 later_at None n h = absurd (cc)
@@ -189,7 +243,7 @@ chan_comes : (s : Switch) (now moment : ℕ) (held : Option Chan) → chan_momen
     is_due (record s { moment = moment }) held ≡ true
 chan_comes s now moment None is = absurd (none-some moment is)
 chan_comes s now moment (Some c) is =
-    ap is_now
+    ap (λ (due : Option Due). is_now due || dials (Some c))
     (waits_come s now moment c (awaited_by c) (later_at (due_by (record s { moment = now }) c (awaited_by c)) moment is))
 
 row_comes : (s : Switch) (now moment : ℕ) (held : Option (Numbered Job)) → row_moment (record s { moment = now }) held ≡ Some moment →
@@ -202,28 +256,33 @@ row_comes s now moment (Some row) is =
           (work_comes s now moment row.held.work (later_at (work_due t row.held.work) moment is)),
     )
 
--- a slot has something to do, or a job has
+-- a slot has something to do, or waits until a controller was dialed, or a job has something to do
 abbrev pub IsDue : DueActor → Type 0
 IsDue (actor.Slot slot) = Unit {0}
+IsDue (actor.Dial slot) = Unit {0}
 IsDue (actor.Job number) = Unit {0}
 IsDue (actor.Later moment) = ⊥
 IsDue actor.Never = ⊥
+
+turn_is_due : (waits : Bool) (slot : ℕ) → IsDue (if waits then actor.Dial slot else actor.Slot slot)
+turn_is_due true slot = tt
+turn_is_due false slot = tt
 
 slot_is_due : (s : Switch) (seat : ℕ) → is_due s (held_in s.channels seat) ≡ true → IsDue (due_among_all s)
 slot_is_due s seat due = by (due_slot s) refl
   where
     by : (found : Option ℕ) → due_slot s ≡ found →
-        IsDue (actor_or actor.Slot found
+        IsDue (actor_or (turn_of s) found
         (actor_or actor.Job (due_job s) (later_or_never (lesser (first_chan_moment s) (first_job_moment s)))))
-    by (Some slot) is = tt
+    by (Some slot) is = turn_is_due (dials (chan_at s slot)) slot
     by None is = absurd (both_ways (is_due s (held_in s.channels seat)) (none_found (is_due s) refl s.channels 0 is seat) due)
 
 job_is_due : (s : Switch) (seat number : ℕ) → due_number s (held_in s.jobs seat) ≡ Some number → IsDue (due_among_all s)
 job_is_due s seat number due = by (due_slot s) (due_job s) refl
   where
     by : (slot job : Option ℕ) → due_job s ≡ job →
-        IsDue (actor_or actor.Slot slot (actor_or actor.Job job (later_or_never (lesser (first_chan_moment s) (first_job_moment s)))))
-    by (Some slot) job is = tt
+        IsDue (actor_or (turn_of s) slot (actor_or actor.Job job (later_or_never (lesser (first_chan_moment s) (first_job_moment s)))))
+    by (Some slot) job is = turn_is_due (dials (chan_at s slot)) slot
     by None (Some job) is = tt
     by None None is = absurd (none-some number (sym (least_never (due_number s) s.jobs refl is seat) ∙ due))
 
@@ -232,7 +291,7 @@ due_behind : (s : Switch) (now moment : ℕ) → due_among_all (record s { momen
 due_behind s now moment is =
     let t : Switch = record s { moment = now } in
     by (lesser_is (first_chan_moment t) (first_job_moment t) moment
-    (later_among (due_slot t) (due_job t) (lesser (first_chan_moment t) (first_job_moment t)) moment is))
+    (later_among t (due_slot t) (due_job t) (lesser (first_chan_moment t) (first_job_moment t)) moment is))
   where
     by : (first_chan_moment (record s { moment = now }) ≡ Some moment) ⊎ (first_job_moment (record s { moment = now }) ≡ Some moment) →
         IsDue (due_among_all (record s { moment = moment }))

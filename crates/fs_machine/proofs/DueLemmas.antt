@@ -1,5 +1,5 @@
 -- A moment that is told is still to come.
-use Rattle.std.proofs.Common.{◌≡◌, ℕ, ◌<◌, max, Bool, true, false, if◌then◌else◌, Option, None, Some, refl, arith}
+use Rattle.std.proofs.Common.{◌≡◌, ℕ, ◌<◌, max, Bool, true, false, if◌then◌else◌, Option, None, Some, refl, sym, ap, ◌∙◌, arith}
 use Rattle.fs_text.specs.Texts.{Text}
 use Rattle.fs_chan.specs.declared.chan.Chan.{Chan}
 use Rattle.fs_chan.specs.declared.due.Due.{Due}
@@ -16,10 +16,10 @@ use Rattle.fs_state.specs.declared.job.Job.{Job}
 use Rattle.fs_state.specs.declared.job.JobWork.{JobWork}
 use Rattle.fs_state.specs.declared.job.JobWork.TheVariants.{Run, Sleep, Originate}
 use Rattle.fs_state.specs.Queues.{has_caller}
-use Rattle.fs_state.specs.Switch.{Switch, orig_of, at_moment}
+use Rattle.fs_state.specs.Switch.{Switch, chan_at, orig_of, at_moment}
 use Rattle.fs_machine.specs.declared.due.DueActor.TheVariants as actor
 use Rattle.fs_machine.specs.Due.{orig_due, due_wanting, due_by, work_due, later_of, chan_moment, row_moment, due_slot, due_job, first_chan_moment}
-use Rattle.fs_machine.specs.Due.{first_job_moment, later_or_never, due_among_all}
+use Rattle.fs_machine.specs.Due.{first_job_moment, actor_or, later_or_never, dials, turn_of, due_but_slots, due_among_all}
 
 later_at : (due : Option Due) (n : ℕ) → later_of due ≡ Some n → due ≡ Some (At n)
 later_at None n h = absurd (cc)
@@ -61,9 +61,15 @@ moment_after : (k : ℕ) (found : Option ℕ) (moment : ℕ) → IsAfter k found
 moment_after k None moment after h = absurd (cc)
 moment_after k (Some n) moment after h = after moment (cc)
 
+never_later : (dials : Bool) (slot moment : ℕ) → (if dials then actor.Dial slot else actor.Slot slot) ≡ actor.Later moment → ⊥
+never_later true slot moment h = absurd (cc)
+never_later false slot moment h = absurd (cc)
+
 all_after : (s : Switch) (slot job : Option ℕ) (moment : ℕ) → due_slot s ≡ slot → due_job s ≡ job → due_among_all s ≡ actor.Later moment →
     s.moment < moment
-all_after s (Some slot) job moment is_slot is_job h = absurd (cc)
+all_after s (Some slot) job moment is_slot is_job h =
+    absurd (never_later (dials (chan_at s slot)) slot moment
+    (ap (λ (found : Option ℕ). actor_or (turn_of s) found (due_but_slots s)) (sym is_slot) ∙ h))
 all_after s None (Some job) moment is_slot is_job h = absurd (cc)
 all_after s None None moment is_slot is_job h =
     moment_after s.moment (lesser (first_chan_moment s) (first_job_moment s)) moment

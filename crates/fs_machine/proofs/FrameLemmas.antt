@@ -2,10 +2,10 @@
 use Rattle.std.proofs.Common.{◌≡◌, ℕ, ◌≤◌, true, false, List, [], ◌∷◌, ◌++◌, Option, None, Some, is_some, unwrap_or, slice_get, not, refl}
 use Rattle.std.proofs.Common.{sym, ap, ◌∙◌, append_assoc, append-nil, arith}
 use Rattle.fs_text.specs.Texts.{Text}
-use Rattle.fs_state.specs.Switch.{Switch, waiting_for, is_full}
+use Rattle.fs_state.specs.Switch.{Switch, waiting_for, with_frame_taken, at_moment, is_full}
 use Rattle.fs_machine.specs.declared.entry.Entry.{Entry}
 use Rattle.fs_machine.specs.declared.entry.Act.{Act}
-use Rattle.fs_machine.specs.declared.entry.Act.TheVariants.{Arrive, Command, Take, Close, Work, Job, Halt}
+use Rattle.fs_machine.specs.declared.entry.Act.TheVariants.{Arrive, Command, Take, Close, Dialed, Work, Job, Halt}
 use Rattle.fs_machine.specs.declared.reply.Reply.TheVariants as reply
 use Rattle.fs_machine.specs.declared.refusal.Refusal.TheVariants as refusal
 use Rattle.fs_machine.specs.Entries.{cost_of}
@@ -14,6 +14,7 @@ use Rattle.fs_machine.specs.Questions.{owed_to, owes}
 use Rattle.fs_machine.specs.Step.{step, refusal_of, reads, refused_where, busy}
 use Rattle.fs_machine.specs.Runs.{run_from}
 use Rattle.fs_machine.specs.Frames.{handed_in, handed_from}
+use Rattle.fs_machine.proofs.ControlLemmas.{behind_owed}
 
 -- every act costs something
 pub some_cost : (act : Act) → 64 ≤ cost_of act
@@ -21,6 +22,7 @@ some_cost Arrive = omega arith
 some_cost (Command conn block) = omega arith
 some_cost (Take conn) = omega arith
 some_cost (Close conn how) = omega arith
+some_cost (Dialed slot linked) = omega arith
 some_cost (Work slot) = omega arith
 some_cost (Job number) = omega arith
 some_cost Halt = omega arith
@@ -43,7 +45,7 @@ take_answers s moment conn = refl
 -- and no command is answered by it
 pub take_owes : (s : Switch) (moment taker conn : ℕ) → owes (step s (record { moment = moment; act = Take taker })).state conn ≡ owes s conn
 unfolding step
-take_owes s moment taker conn = refl
+take_owes s moment taker conn = ap is_some (behind_owed (with_frame_taken taker (at_moment moment s)) conn)
 
 -- a connection that reads commands and is owed no reply gives one, unless the journal is full
 pub command_refused : (s : Switch) (moment conn : ℕ) (block : Text) → reads (phase_at s conn) ≡ true → owes s conn ≡ false →

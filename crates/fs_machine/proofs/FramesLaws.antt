@@ -6,20 +6,21 @@ use Rattle.std.proofs.lemmas.Bool.{both_ways, eqb-true, eqb-false, cases_eq, or_
 use Rattle.std.proofs.lemmas.List.{nil_from_length}
 use Rattle.fs_doc.specs.Reading.{Configuration}
 use Rattle.fs_seats.specs.Rows.{seat_of}
-use Rattle.fs_seats.proofs.RowLemmas.{seat_stands, seat_of-without_row_same}
+use Rattle.fs_seats.proofs.RowLemmas.{seat_stands}
 use Rattle.fs_text.specs.Texts.{Text}
 use Rattle.fs_state.specs.Frames.{texts_of}
 use Rattle.fs_state.specs.Posting.{with_posts}
-use Rattle.fs_state.specs.Switch.{Switch, empty, waiting_at, waiting_for, with_frame_taken, without_conn, at_moment, after_entry, all_given}
+use Rattle.fs_state.specs.Switch.{Switch, empty, waiting_at, waiting_for, with_frame_taken, at_moment, after_entry, all_given}
 use Rattle.fs_machine.specs.declared.entry.Entry.{Entry}
 use Rattle.fs_machine.specs.declared.entry.Act.{Act}
-use Rattle.fs_machine.specs.declared.entry.Act.TheVariants.{Arrive, Take, Close}
+use Rattle.fs_machine.specs.declared.entry.Act.TheVariants.{Arrive, Take, Close, Dialed}
 use Rattle.fs_machine.specs.declared.entry.Closing.TheVariants.{Sent, Failed}
 use Rattle.fs_machine.specs.declared.refusal.Refusal.TheVariants as refusal
 use Rattle.fs_machine.specs.Entries.{cost_of}
 use Rattle.fs_machine.specs.Connections.{phase_at}
 use Rattle.fs_machine.specs.Questions.{owed_to}
-use Rattle.fs_machine.specs.Step.{is_closed, is_ending, is_unsent, refused_where, refused_act, refusal_of, act_done, step}
+use Rattle.fs_machine.specs.Controlling.{after_dial}
+use Rattle.fs_machine.specs.Step.{is_closed, is_ending, is_unsent, refused_where, refused_act, refusal_of, Acted, arrived, act_done, step}
 use Rattle.fs_machine.specs.Runs.{run_from, IsRunFrom}
 use Rattle.fs_machine.specs.Frames.{given_in, given_by, frames_from, handed_in, handed_from}
 use Rattle.fs_machine.proofs.FrameLemmas.{handed_more}
@@ -27,8 +28,11 @@ use Rattle.fs_machine.proofs.RestLemmas.{whichever}
 use Rattle.fs_machine.proofs.KeepLemmas.{Keeps, act_keeps}
 use Rattle.fs_machine.proofs.WaitingLemmas.{Ordered, none_closed, some_open, keeps_waiting, closed_waits, closed_quietly, none_given}
 use Rattle.fs_machine.proofs.WaitingLemmas.{posted_ordered, none_in_all}
-use Rattle.fs_machine.proofs.WaitingLemmas.{nothing_given, taken_ordered, taken_same, taken_other, without_ordered, without_same}
-use Rattle.fs_machine.proofs.WaitingLemmas.{without_other, arrived_waits}
+use Rattle.fs_machine.proofs.WaitingLemmas.{nothing_given, taken_ordered, taken_same, taken_other, arrived_waits}
+use Rattle.fs_machine.proofs.LeftLemmas.{take_done}
+use Rattle.fs_machine.proofs.ComingLemmas.{dial_waits}
+use Rattle.fs_machine.proofs.OrderLemmas.{left_waits, gone_with, gone_ordered, gone_seat, gone_drawn, gone_same, gone_other}
+use Rattle.fs_machine.proofs.CloseLaws.{take_leaves_phase}
 use Rattle.fs_machine.proofs.OrderLemmas.{Orderly, acted_ordered, acted_settings, acted_drawn, acted_gone, none_refused, not_full}
 use Rattle.fs_machine.proofs.OrderLemmas.{not_refused, room_left, advanced_orderly, entry_orderly, run_orderly, empty_waits, empty_orderly}
 
@@ -67,7 +71,10 @@ keeps_follows before conn act s handed ordered keeps =
 
 -- a frame that is taken is handed out, and the others wait
 take_follows : (before : Switch) (conn taker : ℕ) (s : Switch) → Orderly s → Follows before conn (Take taker) s
-take_follows before conn taker s orderly = by (taker == conn) refl
+take_follows before conn taker s orderly =
+    subst (λ (done : Acted). waiting_for s conn ++ given_in conn (with_posts before done.state)
+    ≡ handed_in conn (Take taker) s ++ waiting_for (after_entry 64 (with_posts before done.state)) conn)
+    (sym (take_done taker s orderly.settled)) (by (taker == conn) refl)
   where
     t : Switch
     t = with_posts before (with_frame_taken taker s)
@@ -119,13 +126,13 @@ sent_all s conn none =
 sent_follows : (before : Switch) (conn gone : ℕ) (s : Switch) → Orderly s → refused_act (Close gone Sent) s ≡ None →
     Follows before conn (Close gone Sent) s
 sent_follows before conn gone s orderly none =
-    quiet_follows before conn (Close gone Sent) s refl (without_ordered gone s orderly.ordered) (by (cases_eq gone conn))
+    quiet_follows before conn (Close gone Sent) s refl (gone_ordered gone s orderly.ordered) (by (cases_eq gone conn))
   where
-    by : (gone ≡ conn) ⊎ (gone ≡ conn → ⊥) → waiting_for (without_conn gone s) conn ≡ waiting_for s conn
+    by : (gone ≡ conn) ⊎ (gone ≡ conn → ⊥) → waiting_for (gone_with gone s) conn ≡ waiting_for s conn
     by (inl same) =
-        subst (λ number. waiting_for (without_conn gone s) number ≡ waiting_for s number) same
-        (without_same gone s orderly.ordered ∙ sym (sent_all s gone none))
-    by (inr differ) = without_other gone conn s differ
+        subst (λ number. waiting_for (gone_with gone s) number ≡ waiting_for s number) same
+        (gone_same gone s orderly.ordered ∙ sym (sent_all s gone none))
+    by (inr differ) = gone_other gone conn s differ
 
 -- a connection that is open has a number that was drawn
 open_drawn : (s : Switch) (conn : ℕ) → Ordered s → is_closed (phase_at s conn) ≡ false → conn ≤ s.drawn.conns
@@ -140,9 +147,10 @@ failed_drops : (before : Switch) (conn : ℕ) (s : Switch) → Orderly s → ref
     Drops before conn (Close conn Failed) s
 failed_drops before conn s orderly none = record {
   handed = refl;
-  given = none_given (posted_by before (Close conn Failed) s) conn (seat_of-without_row_same s.conns conn orderly.ordered.distinct);
-  gone = seat_of-without_row_same s.conns conn orderly.ordered.distinct;
-  drawn = open_drawn s conn orderly.ordered (none_refused (is_closed (phase_at s conn)) refusal.Gone None none).0;
+  given = none_given (posted_by before (Close conn Failed) s) conn (gone_seat conn s orderly.ordered);
+  gone = gone_seat conn s orderly.ordered;
+  drawn = subst (λ drawn. conn ≤ drawn) (sym (gone_drawn conn s))
+      (open_drawn s conn orderly.ordered (none_refused (is_closed (phase_at s conn)) refusal.Gone None none).0);
 }
 
 -- and the others do not feel it
@@ -154,7 +162,7 @@ failed_follows before conn gone s orderly none = by (cases_eq gone conn)
     by (inl same) = inr (subst (λ number. Drops before number (Close gone Failed) s) same (failed_drops before gone s orderly none))
     by (inr differ) =
         inl
-        (quiet_follows before conn (Close gone Failed) s refl (without_ordered gone s orderly.ordered) (without_other gone conn s differ))
+        (quiet_follows before conn (Close gone Failed) s refl (gone_ordered gone s orderly.ordered) (gone_other gone conn s differ))
 
 -- an act that closes no connection as failed
 abbrev pub IsUnfailed : Act → Type 0
@@ -165,7 +173,11 @@ IsUnfailed _ = Unit {0}
 unfailed_follows : (before : Switch) (conn : ℕ) (act : Act) (s : Switch) → IsUnfailed act → Orderly s → s.drawn.conns < 2 ^ 32 - 1 →
     refused_act act s ≡ None → Follows before conn act s
 unfailed_follows before conn Arrive s such orderly room none =
-    quiet_follows before conn Arrive s refl (acted_ordered Arrive s orderly.ordered room) (arrived_waits s conn orderly.ordered room)
+    quiet_follows before conn Arrive s refl (acted_ordered Arrive s orderly.ordered room)
+    (left_waits (arrived s).state conn ∙ arrived_waits s conn orderly.ordered room)
+unfailed_follows before conn (Dialed slot linked) s such orderly room none =
+    quiet_follows before conn (Dialed slot linked) s refl (acted_ordered (Dialed slot linked) s orderly.ordered room)
+    (left_waits (after_dial linked slot s) conn ∙ dial_waits linked slot s conn orderly.ordered room)
 unfailed_follows before conn (Take taker) s such orderly room none = take_follows before conn taker s orderly
 unfailed_follows before conn (Close gone Sent) s such orderly room none = sent_follows before conn gone s orderly none
 unfailed_follows before conn (Close gone Failed) s such orderly room none = absurd such
@@ -358,8 +370,8 @@ run_front s (first ∷ entries) entry run = let rest = run_front (step s first).
 close_gives_none : (s : Switch) (moment conn : ℕ) → Orderly s → given_by conn s (record { moment = moment; act = Close conn Sent }) ≡ []
 unfolding given_by
 close_gives_none s moment conn orderly =
-    let t : Switch = without_conn conn (at_moment moment s) in
-    nothing_given (with_posts s t) conn (none_in_all s t orderly.replies orderly.news orderly.late orderly.notices)
+    none_given (with_posts s (gone_with conn (at_moment moment s))) conn
+    (gone_seat conn (at_moment moment s) (advanced_orderly moment s orderly).ordered)
 
 -- a connection that can be closed so is open
 close_open : (s : Switch) (moment conn : ℕ) → refusal_of s (record { moment = moment; act = Close conn Sent }) ≡ None →
@@ -466,15 +478,12 @@ take_leaves : (s : Switch) (moment conn : ℕ) → Orderly s →
 unfolding step
 take_leaves s moment conn orderly =
     let t : Switch = with_frame_taken conn (at_moment moment s) in
-    closed_quietly 64 (with_posts s t) conn
+    ap (λ (done : Acted). waiting_for (after_entry 64 (with_posts s done.state)) conn)
+    (take_done conn (at_moment moment s) orderly.settled)
+    ∙ closed_quietly 64 (with_posts s t) conn
     (posted_ordered s t (taken_ordered conn (at_moment moment s) (advanced_orderly moment s orderly).ordered))
     (none_in_all s t orderly.replies orderly.news orderly.late orderly.notices)
     ∙ taken_same conn (at_moment moment s) (advanced_orderly moment s orderly).ordered
-
-take_leaves_phase : (s : Switch) (moment conn : ℕ) →
-    phase_at (step s (record { moment = moment; act = Take conn })).state conn ≡ phase_at s conn
-unfolding step
-take_leaves_phase s moment conn = refl
 
 pub take_leaves_rest : (config : Configuration) (entries : List Entry) (moment conn : ℕ) → config.settings.journal_limit ≤ 1073741824 →
     IsRunFrom (empty config) entries →
@@ -485,5 +494,6 @@ pub take_leaves_rest : (config : Configuration) (entries : List Entry) (moment c
     (run_from (empty config) entries) conn)
 take_leaves_rest config entries moment conn limit run is_open = (
   take_leaves (run_from (empty config) entries) moment conn (run_orderly (empty config) entries (empty_orderly config limit) run),
-  take_leaves_phase (run_from (empty config) entries) moment conn,
+  take_leaves_phase (run_from (empty config) entries) moment conn
+      (run_orderly (empty config) entries (empty_orderly config limit) run).settled,
 )

@@ -10,6 +10,7 @@ use Rattle.fs_doc.specs.declared.settings.Settings.{Settings}
 use Rattle.fs_text.specs.Cause.{cause_name}
 use Rattle.fs_text.specs.declared.causes.Cause.{Cause}
 use Rattle.fs_text.specs.declared.causes.Cause.TheVariants.{NormalClearing}
+use Rattle.fs_text.specs.declared.states.State.TheVariants.{CsPark}
 use Rattle.fs_text.specs.declared.event_names.EventName.TheVariants.{ChannelExecuteComplete}
 use Rattle.fs_bridge.specs.declared.row.BridgeKind.{BridgeKind}
 use Rattle.fs_bridge.specs.declared.row.BridgeKind.TheVariants.{Dial}
@@ -21,6 +22,8 @@ use Rattle.fs_bridge.specs.Closure.{Members}
 use Rattle.fs_chan.specs.declared.chan.Chan.{Chan}
 use Rattle.fs_chan.specs.Bridging.{awaiting, awaited_by, bridged, in_media, at_leisure, exported_pairs, unbridged as let_go}
 use Rattle.fs_chan.specs.Changes.{is_live, at_rest, parked}
+use Rattle.fs_chan.specs.Controlling.{held_by, dial_of}
+use Rattle.fs_chan.specs.declared.peer.Peer.{Peer}
 use Rattle.fs_orig.specs.declared.caller.Caller.{Caller}
 use Rattle.fs_orig.specs.declared.leg.OrigLeg.{OrigLeg}
 use Rattle.fs_orig.specs.declared.plan.LegPlan.{LegPlan}
@@ -42,7 +45,7 @@ use Rattle.fs_state.specs.declared.job.JobWork.{JobWork}
 use Rattle.fs_state.specs.declared.job.JobWork.TheVariants.{Sleep, Originate}
 use Rattle.fs_state.specs.Counts.{Tallies}
 use Rattle.fs_state.specs.Ending.{ended}
-use Rattle.fs_state.specs.Switch.{Switch, chan_at, with_chan, with_bridge, conn_of, orig_of, next_orig_number}
+use Rattle.fs_state.specs.Switch.{Switch, chan_at, with_chan, with_bridge, conn_of, with_new_conn, orig_of, next_orig_number}
 use Rattle.fs_state.specs.Switch.{with_new_job, without_job, without_orig, with_event, bridge_at, without_bridge}
 use Rattle.fs_state.specs.Switch.{with_next_identifier}
 use Rattle.fs_state.specs.Moves.{plain_event, application_event, running_at, with_changed_chan, after_move, orig_changed_from, orig_changed}
@@ -50,6 +53,7 @@ use Rattle.fs_state.specs.Moves.{leg_changed, is_owner, given_up_by, orig_given_
 use Rattle.fs_state.specs.Hangups.{lives, lives_at, row_at, unbridge_event, after_end, after_outliving, after_survival, after_hangups}
 use Rattle.fs_state.specs.Leaving.{dropped_by, after_parting, after_leaving_others}
 use Rattle.fs_state.specs.Bridging.{can_join, bridge_event, peer_of, with_peer_from, with_peer, joined_as}
+use Rattle.fs_machine.specs.Controlling.{coming_number, controller, after_leavings}
 use Rattle.fs_machine.specs.Texts.{made_text, failed_text}
 use Rattle.fs_machine.specs.Connections.{conn_changed_from, conn_changed, admitted, parted, owed_since, not_owed, with_subs_changed}
 use Rattle.fs_machine.specs.Originations.{MadeGroup, group_made, after_winning}
@@ -62,11 +66,11 @@ use Rattle.fs_machine.specs.Bridging.{after_bridge_win}
 use Rattle.fs_machine.specs.Dialing.{tried_by_slot}
 use Rattle.fs_machine.specs.Joining.{after_leaving}
 use Rattle.fs_machine.specs.Leaving.{after_departure}
-use Rattle.fs_machine.proofs.Kept.{Stage, Fact, TellsNoBridge, Links, Remains, Stays, KeptByTouches, KeptByCalls, KeptByBirths, DoesJob}
+use Rattle.fs_machine.proofs.Kept.{Stage, Fact, TellsNoBridge, Links, Remains, Keeps, KeepsHold, KeptByTouches, KeptByCalls, KeptByBirths, DoesJob}
 use Rattle.fs_machine.proofs.Kept.{KeptByDials}
 use Rattle.fs_machine.proofs.Kept.{raced}
 use Rattle.fs_machine.proofs.Kept.{HasWon, KeptByApi, KeptByMoves}
-use Rattle.fs_machine.proofs.StayLemmas.{application_plain, moved_plain, changed_there, park_lives}
+use Rattle.fs_machine.proofs.StayLemmas.{application_plain, moved_plain, changed_there, park_lives, same_holder, rest_holder, held_keeps}
 use Rattle.fs_machine.proofs.JoinLemmas.{both_left_kept}
 use Rattle.fs_machine.proofs.LeaveLemmas.{others_left}
 use Rattle.fs_machine.proofs.BondLemmas.{row_seen}
@@ -111,6 +115,13 @@ orig_changed_front change number s = by (orig_of s number)
     by None = refl
     by (Some o) = refl
 
+pub orig_changed_conns : (change : Orig → Orig) (number : ℕ) (s : Switch) → (orig_changed change number s).conns ≡ s.conns
+orig_changed_conns change number s = by (orig_of s number)
+  where
+    by : (found : Option Orig) → (orig_changed_from change number found s).conns ≡ s.conns
+    by None = refl
+    by (Some o) = refl
+
 -- what reads no connections does not tell a change of one
 pub conn_unread : {A : Type 0} → (read : Switch → A) →
     ((conns : List (Option (Numbered Conn))) (t : Switch) → read (record t { conns = conns }) ≡ read t) →
@@ -137,6 +148,14 @@ given_up_front slot (Some number) s = by (orig_of s number)
     by None = refl
     by (Some o) = whichever (λ (t : Switch). front_of t ≡ front_of s) (is_owner slot o.owner) (without_orig number s) s refl refl
 
+given_up_conns : (slot : ℕ) (awaited : Option ℕ) (s : Switch) → (orig_given_up slot awaited s).conns ≡ s.conns
+given_up_conns slot None s = refl
+given_up_conns slot (Some number) s = by (orig_of s number)
+  where
+    by : (found : Option Orig) → (given_up_by slot number found s).conns ≡ s.conns
+    by None = refl
+    by (Some o) = whichever (λ (t : Switch). t.conns ≡ s.conns) (is_owner slot o.owner) (without_orig number s) s refl refl
+
 -- ---- facts that read of a channel what a bridge leaves as it is
 
 -- nothing that would be dead comes to media
@@ -149,21 +168,37 @@ pub record KeptByRemains (P : Fact) : Type 0 where
   pub globals : (globals : Variables) {b : Stage} {s : Switch} → P b s → P b (record s { globals = globals })
   pub joins : (kind : BridgeKind) (caller answerer : ℕ) {b : Stage} {s : Switch} → can_join caller answerer s ≡ true → P b s →
       P b (joined_as kind caller answerer s)
-  pub remains : (slot : ℕ) (old new : Chan) {b : Stage} {s : Switch} → chan_at s slot ≡ Some old → Remains old new → P b s →
-      P b (with_chan slot (Some new) s)
+  pub remains : (slot : ℕ) (old new : Chan) {b : Stage} {s : Switch} → chan_at s slot ≡ Some old → Remains old new →
+      KeepsHold old new → P b s → P b (with_chan slot (Some new) s)
   pub parts : (slot : ℕ) (row : Row) {b : Stage} {s : Switch} → bridge_at s slot ≡ Some row → P b s → P b (after_parting (Some row) s)
   pub hung : (named : Members) {b : Stage} {s : Switch} → P b s → P b (after_hangups named s)
   pub more : {s : Switch} → P (Some 0) s → P (Some 1) s
   pub gone : (slot : ℕ) (old : Chan) {s : Switch} → chan_at s slot ≡ Some old → is_live old ≡ false → P (Some 0) s →
       P (Some 1) (with_chan slot None s)
 
-pub stays_remains : {b : Stage} (old new : Chan) → Stays b old new → Remains old new
-stays_remains old new stays = record {
-  uuid = ap (λ (l : Links). l.uuid) stays.links;
-  partner = ap (λ (l : Links). l.partner) stays.links;
-  live = stays.live;
-  short = stays.short;
+pub keeps_remains : {b : Stage} (old new : Chan) → Keeps b old new → Remains old new
+keeps_remains old new keeps = record {
+  uuid = ap (λ (l : Links). l.uuid) keeps.links;
+  partner = ap (λ (l : Links). l.partner) keeps.links;
+  live = keeps.live;
+  short = keeps.short;
 }
+
+-- so is one of which a connection takes hold
+pub held_remains : (conn : ℕ) (c : Chan) (text : Text) → dial_of c ≡ Some text → Remains c (held_by conn c)
+held_remains conn c text waits = keeps_remains c (held_by conn c) (held_keeps {b = None} conn c text waits)
+
+-- one that rests waits for no controller
+rests_holder : (c : Chan) → KeepsHold c (at_rest c)
+rests_holder c = rest_holder c.socket c.state (inl refl) refl
+
+-- nor what a bridge makes of one
+joined_holder : (peer : Peer) (c : Chan) → KeepsHold c (bridged peer c)
+joined_holder peer c = record { socket = inl refl; dials = λ h. tt }
+
+-- nor one that is at leisure, which nobody holds
+leisure_holder : (c : Chan) → KeepsHold c (at_leisure c)
+leisure_holder c = rest_holder None c.state (inr refl) refl
 
 -- a slot stays lively where its channel lives on
 lively_put : (s : Switch) (slot seat : ℕ) (old new : Chan) → chan_at s seat ≡ Some old → is_live new ≡ is_live old → Lively s slot →
@@ -198,8 +233,8 @@ lively_now s slot live c is = sym (ap lives is) ∙ live
 -- two are joined, where each event is kept, all rows of bridges are, and what remains of channels
 module _ (P : Fact) (told : (event : Event) (b : Stage) (s : Switch) → P b s → P b (with_event event s))
     (bridges : (rows : BridgeRows) (b : Stage) (s : Switch) → P b s → P b (record s { bridges = rows }))
-    (remains : (slot : ℕ) (old new : Chan) (b : Stage) (s : Switch) → chan_at s slot ≡ Some old → Remains old new → P b s →
-    P b (with_chan slot (Some new) s)) where
+    (remains : (slot : ℕ) (old new : Chan) (b : Stage) (s : Switch) → chan_at s slot ≡ Some old → Remains old new →
+    KeepsHold old new → P b s → P b (with_chan slot (Some new) s)) where
   peer_remains : (slot other : ℕ) (b : Stage) (s : Switch) → P b s → P b (with_peer slot other s)
   peer_remains slot other b s h = by (chan_at s other)
     where
@@ -208,12 +243,13 @@ module _ (P : Fact) (told : (event : Event) (b : Stage) (s : Switch) → P b s �
       by (Some d) =
           changed_there (P b) (bridged (peer_of other d)) slot s
           (λ c there. remains slot c (bridged (peer_of other d) c) b s there
-          (record { uuid = refl; partner = refl; live = refl; short = λ short. short }) h) h
+          (record { uuid = refl; partner = refl; live = refl; short = λ short. short }) (joined_holder (peer_of other d) c) h) h
 
   freed_remains : (cause : Cause) (slot : ℕ) (b : Stage) (s : Switch) → P b s → P b (with_changed_chan (let_go cause) slot s)
   freed_remains cause slot b s h =
       changed_there (P b) (let_go cause) slot s
-      (λ c there. remains slot c (let_go cause c) b s there (record { uuid = refl; partner = refl; live = refl; short = λ short. short }) h)
+      (λ c there. remains slot c (let_go cause c) b s there (record { uuid = refl; partner = refl; live = refl; short = λ short. short })
+      (same_holder refl refl) h)
       h
 
   pub parts_by_remains : (row : Row) (b : Stage) (s : Switch) → P b s → P b (after_parting (Some row) s)
@@ -232,28 +268,31 @@ module _ (P : Fact) (told : (event : Event) (b : Stage) (s : Switch) → P b s �
       (peer_remains caller answerer b t (bridges (joined caller answerer kind s.bridges) b s h)))
 
 -- such a fact is kept by what channels do, and by those that dial, if it is where a leg that has won comes into media
-module _ (before : Switch) (P : Fact) (same : (b : Stage) (t u : Switch) → P b t → front_of u ≡ front_of t → P b u)
+module _ (before : Switch) (P : Fact)
+    (same : (b : Stage) (t u : Switch) → P b t → front_of u ≡ front_of t → u.conns ≡ t.conns → P b u)
     (kept : KeptByRemains P) (births : KeptByBirths P)
     (media : (slot : ℕ) (u : Switch) → Lively u slot → P (Some 0) u → P (Some 0) (after_move in_media slot u)) where
   touches : KeptByTouches P
   touches = record {
     told = kept.told;
     globals = kept.globals;
-    changed = λ slot old new there stays h. kept.remains slot old new there (stays_remains old new stays) h;
+    changed = λ slot old new there stays h. kept.remains slot old new there (keeps_remains old new stays.keeps) stays.holder h;
     answers = λ seat slot number {b = b} {s = s} h.
-        same b s _ h (orig_changed_front (leg_changed (λ position. with_answer position seat) slot) number s);
+        same b s _ h (orig_changed_front (leg_changed (λ position. with_answer position seat) slot) number s)
+        (orig_changed_conns (leg_changed (λ position. with_answer position seat) slot) number s);
   }
 
-  changed_remains : (change : Chan → Chan) (slot : ℕ) (b : Stage) (s : Switch) → ((c : Chan) → Remains c (change c)) → P b s →
-      P b (with_changed_chan change slot s)
-  changed_remains change slot b s remains h =
-      changed_there (P b) change slot s (λ c there. kept.remains slot c (change c) there (remains c) h) h
+  changed_remains : (change : Chan → Chan) (slot : ℕ) (b : Stage) (s : Switch) → ((c : Chan) → Remains c (change c)) →
+      ((c : Chan) → KeepsHold c (change c)) → P b s → P b (with_changed_chan change slot s)
+  changed_remains change slot b s remains holder h =
+      changed_there (P b) change slot s (λ c there. kept.remains slot c (change c) there (remains c) (holder c) h) h
 
   moved_remains : (change : Chan → Chan) (slot : ℕ) (b : Stage) (s : Switch) →
-      ((c : Chan) → chan_at s slot ≡ Some c → Remains c (change c)) → P b s → P b (after_move change slot s)
-  moved_remains change slot b s remains h =
+      ((c : Chan) → chan_at s slot ≡ Some c → Remains c (change c)) → ((c : Chan) → KeepsHold c (change c)) → P b s →
+      P b (after_move change slot s)
+  moved_remains change slot b s remains holder h =
       moved_plain (P b) (λ name at t plain k. kept.told (plain_event name at) plain k) change slot s
-      (λ c there. kept.remains slot c (change c) there (remains c there) h) h
+      (λ c there. kept.remains slot c (change c) there (remains c there) (holder c) h) h
 
   -- ---- bridges
 
@@ -261,8 +300,8 @@ module _ (before : Switch) (P : Fact) (same : (b : Stage) (t u : Switch) → P b
   left_remains slot b s h =
       let awaited : Option ℕ = option_and_then awaited_by (chan_at s slot) in
       changed_remains at_leisure slot b (orig_given_up slot awaited s)
-      (λ c. record { uuid = refl; partner = refl; live = refl; short = λ short. short })
-      (same b s (orig_given_up slot awaited s) h (given_up_front slot awaited s))
+      (λ c. record { uuid = refl; partner = refl; live = refl; short = λ short. short }) leisure_holder
+      (same b s (orig_given_up slot awaited s) h (given_up_front slot awaited s) (given_up_conns slot awaited s))
 
   -- the other leg of a bridge that was left
   survived_remains : (what : After) (slot : ℕ) (b : Stage) (s : Switch) → P b s → P b (after_survival what slot s)
@@ -271,11 +310,12 @@ module _ (before : Switch) (P : Fact) (same : (b : Stage) (t u : Switch) → P b
       on : (after : After) → lives_at s slot ≡ true → P b (after_outliving after slot s)
       on GoOn live =
           kept.told (application_event ChannelExecuteComplete (running_at slot s) slot) (application_plain (running_at slot s) slot)
-          (moved_remains at_rest slot b s (λ c there. record { uuid = refl; partner = refl; live = refl; short = λ short. short }) h)
+          (moved_remains at_rest slot b s (λ c there. record { uuid = refl; partner = refl; live = refl; short = λ short. short })
+          rests_holder h)
       on Park live =
           moved_remains parked slot b s
           (λ c there. record { uuid = refl; partner = refl; live = park_lives ∙ sym (sym (ap lives there) ∙ live); short = λ short. short })
-          h
+          (λ c. rest_holder c.socket CsPark (inl refl) refl) h
       on (Hangup cause) live = h
 
       by : (live : Bool) → lives_at s slot ≡ live → P b (if live then after_outliving what slot s else s)
@@ -319,7 +359,7 @@ module _ (before : Switch) (P : Fact) (same : (b : Stage) (t u : Switch) → P b
           kept.told (application_event ChannelExecuteComplete (running_at slot (disposed (cause_name cause) slot s)) slot)
           (application_plain (running_at slot (disposed (cause_name cause) slot s)) slot)
           (moved_remains at_rest slot (Some 0) (disposed (cause_name cause) slot s)
-          (λ c there. record { uuid = refl; partner = refl; live = refl; short = λ short. short }) told)
+          (λ c there. record { uuid = refl; partner = refl; live = refl; short = λ short. short }) rests_holder told)
       on false = kept.hung ((slot, cause) ∷ []) told
 
       by : (found : Option Chan) → P (Some 0) (bridge_failed_from found cause slot s)
@@ -330,7 +370,7 @@ module _ (before : Switch) (P : Fact) (same : (b : Stage) (t u : Switch) → P b
   at_one = record {
     told = λ event plain h. touches.told event plain h;
     globals = λ globals h. touches.globals globals h;
-    changed = λ slot old new there stays h. kept.remains slot old new there (stays_remains old new stays) h;
+    changed = λ slot old new there stays h. kept.remains slot old new there (keeps_remains old new stays.keeps) stays.holder h;
     answers = λ seat slot number h. touches.answers seat slot number h;
   }
 
@@ -351,10 +391,13 @@ module _ (before : Switch) (P : Fact) (same : (b : Stage) (t u : Switch) → P b
       let begun : Switch = orig_begun (owner.Slot slot) groups made.legs timeout made.state in
       moved_remains (awaiting number) slot (Some 0) begun
       (λ d there. record { uuid = refl; partner = refl; live = refl; short = λ short. short })
-      (same (Some 0) made.state begun (group_made_kept P births plans (caller_of c) number {s = s} (births.spent h)) refl)
+      (λ d. record { socket = inl refl; dials = λ k. tt })
+      (same (Some 0) made.state begun (group_made_kept P births plans (caller_of c) number {s = s} (births.spent h)) refl refl)
 
   regroups_same : (number : ℕ) (made : MadeGroup) → P (Some 0) made.state → P (Some 0) (with_group number made)
-  regroups_same number made h = same (Some 0) made.state _ h (orig_changed_front (at_next_group made.legs) number made.state)
+  regroups_same number made h =
+      same (Some 0) made.state _ h (orig_changed_front (at_next_group made.legs) number made.state)
+      (orig_changed_conns (at_next_group made.legs) number made.state)
 
   pub dials_by_remains : KeptByDials before P
   dials_by_remains = record {
@@ -363,10 +406,10 @@ module _ (before : Switch) (P : Fact) (same : (b : Stage) (t u : Switch) → P b
     regroups = λ number o plans caller {s = s} there next h. regroups_same number (group_made plans caller number s)
         (group_made_kept P births plans caller number {s = s} h);
     fails = λ slot orig cause {s = s} waits over h. failed_remains cause slot (without_orig orig s)
-        (same (Some 0) s (without_orig orig s) h refl);
+        (same (Some 0) s (without_orig orig s) h refl refl);
     wins = λ slot orig leg slots waits won h.
         won_remains slot (unwrap_or leg.slot 0) (without_orig orig (raced slots before))
-        (same (Some 0) (raced slots before) (without_orig orig (raced slots before)) h refl);
+        (same (Some 0) (raced slots before) (without_orig orig (raced slots before)) h refl refl);
   }
 
 -- ---- what happens to connections and jobs
@@ -378,7 +421,9 @@ module _ (before : Switch) (P : Fact) (same : (b : Stage) (t u : Switch) → P b
     (wins : (job : ℕ) (who : Asker) (winner : Winner) (caller : Caller) (orig : ℕ) (leg : OrigLeg) (slots : List ℕ) →
     DoesJob (raced slots before) job who (Originate orig winner caller) → HasWon before orig leg slots →
     P (Some 0) (raced slots before) → P (Some 0) (after_winning winner (unwrap_or leg.slot 0) (raced slots before)))
-    (draws : (s : Switch) → P None s → P (Some 1) (with_next_identifier s)) where
+    (draws : (s : Switch) → P None s → P (Some 1) (with_next_identifier s))
+    (holds : (slot conn : ℕ) (c : Chan) (text : Text) (s : Switch) → chan_at s slot ≡ Some c → dial_of c ≡ Some text → P (Some 0) s →
+    P (Some 0) (with_chan slot (Some (held_by conn c)) s)) where
   changed_same : (change : Conn → Conn) (conn n : ℕ) (s : Switch) → P (Some n) s → P (Some n) (conn_changed change conn s)
   changed_same change conn n s h = same (Some n) s _ h (conn_changed_front change conn s)
 
@@ -411,6 +456,7 @@ module _ (before : Switch) (P : Fact) (same : (b : Stage) (t u : Switch) → P b
     draws = λ {s = s} h. draws s h;
     sleeps = λ until {s = s} may room h. same (Some 0) s _ (births.spent h) (begun_front by (Sleep until) s);
     originates = λ groups winner caller timeout {s = s} may are short room h. originates_same by groups winner caller timeout s h;
+    leavings = λ {n = n} {s = s} h. same (Some n) s (after_leavings s) h refl;
     ends = λ reply notice {s = s} dead h. calls.more (same (Some 0) s (ended reply notice s) h refl);
   }
 
@@ -437,14 +483,16 @@ module _ (before : Switch) (P : Fact) (same : (b : Stage) (t u : Switch) → P b
       gave = λ frame h. same _ _ _ h refl;
       asked = λ change {n = n} {s = s} h. changed_same (with_subs_changed change) conn n s h;
       admitted = λ {n = n} {s = s} fresh h. changed_same admitted conn n s h;
-      parted = λ why {n = n} {s = s} leaves h. changed_same (parted why) conn n s h;
+      parted = λ why {n = n} {s = s} leaves was h. changed_same (parted why) conn n s h;
       backgrounds = λ given command {s = s} room h. backgrounds_same given command s h;
     };
     visits = record {
       arrived = λ h. same _ _ _ (births.spent h) refl;
       taken = λ conn h. same _ _ _ h refl;
-      silent = λ conn {s = s} h. changed_same (parted parting.EndOfInput) conn 0 s h;
-      left = λ conn h. same _ _ _ h refl;
+      holds = λ slot c text {s = s} there waits room h.
+          holds slot (coming_number s) c text (with_new_conn (controller slot c text) s) there waits (same _ _ _ (births.spent h) refl);
+      silent = λ conn {s = s} was h. changed_same (parted parting.EndOfInput) conn 0 s h;
+      left = λ conn was h. same _ _ _ h refl;
       halted = λ reply notice {s = s} dead h. calls.more (same (Some 0) s (ended reply notice s) h refl);
     };
   }

@@ -1,6 +1,6 @@
 -- A connection that has come is there, and its input has not ended, until it is closed.
-use Rattle.std.proofs.Common.{◌≡◌, ℕ, zero, suc, ◌+◌, ◌-◌, ◌^◌, min, ◌≤◌, false, Option, None, Some, is_none, length, ◌⊎◌, inl, inr, refl}
-use Rattle.std.proofs.Common.{sym, ap, subst, ◌∙◌, arith}
+use Rattle.std.proofs.Common.{◌≡◌, ℕ, zero, suc, ◌+◌, ◌-◌, ◌^◌, min, ◌≤◌, Bool, false, Option, None, Some, is_none, length, ◌⊎◌, inl, inr}
+use Rattle.std.proofs.Common.{refl, sym, ap, subst, ◌∙◌, arith}
 use Rattle.std.proofs.lemmas.Bool.{cases_eq, le-ltb}
 use Rattle.std.proofs.lemmas.Option.{none-some}
 use Rattle.fs_doc.specs.Reading.{Configuration}
@@ -11,14 +11,17 @@ use Rattle.fs_seats.specs.Rows.{row_of, with_new_row}
 use Rattle.fs_seats.proofs.RowLemmas.{row_none, row_gone, seats_same, row_of-with_new_row, row_of-with_new_row_other}
 use Rattle.fs_state.specs.declared.conn.Conn.{Conn}
 use Rattle.fs_state.specs.Drawn as numbers
-use Rattle.fs_state.specs.Switch.{Switch, empty, conn_of, at_moment}
+use Rattle.fs_state.specs.Switch.{Switch, empty, conn_of, with_frame_taken, at_moment}
 use Rattle.fs_machine.specs.declared.entry.Entry.{Entry}
 use Rattle.fs_machine.specs.declared.entry.Act.{Act}
-use Rattle.fs_machine.specs.declared.entry.Act.TheVariants.{Arrive, Take, Close}
+use Rattle.fs_machine.specs.declared.entry.Act.TheVariants.{Arrive, Take, Close, Dialed}
 use Rattle.fs_machine.specs.declared.refusal.Refusal.TheVariants as refusal
 use Rattle.fs_machine.specs.Here.{IsHere}
-use Rattle.fs_machine.specs.Step.{refused_where, refusal_of, new_conn, arrived, act_done, step}
-use Rattle.fs_machine.proofs.KeepLemmas.{Hears, Keeps, act_keeps}
+use Rattle.fs_machine.specs.Controlling.{taken_hold_of, after_dial, after_leavings}
+use Rattle.fs_machine.specs.Step.{Acted, refused_where, refusal_of, new_conn, arrived, act_done, step}
+use Rattle.fs_machine.proofs.KeepLemmas.{Hears, Keeps, leavings_keep, act_keeps}
+use Rattle.fs_machine.proofs.LeftLemmas.{empty_none_left, arrive_done}
+use Rattle.fs_machine.proofs.ComingLemmas.{TakesHold, TakesNone, dial_takes, none_keeps, hold_keeps}
 
 -- ---- each act
 
@@ -72,10 +75,27 @@ arrived_here conn s here = by (cases_eq (numbers.with_conn s.drawn).conns conn)
     by (inr differ) =
         same_here conn s (arrived s).state (row_of-with_new_row_other s.conns (numbers.with_conn s.drawn).conns new_conn conn differ) here
 
+-- whoever parts as its channel left is there still
+left_here : (conn : ℕ) (s : Switch) → IsHere conn s → IsHere conn (after_leavings s)
+left_here conn s here = keeps_here conn s (after_leavings s) (leavings_keep {who = None} s) here
+
+-- whoever takes hold of a channel, the others stay
+dial_here : (conn : ℕ) (linked : Bool) (slot : ℕ) (s : Switch) → IsHere conn s → IsHere conn (after_dial linked slot s)
+dial_here conn linked slot s here = by (dial_takes linked slot s)
+  where
+    by : TakesHold linked slot s ⊎ TakesNone linked slot s → IsHere conn (after_dial linked slot s)
+    by (inl takes) =
+        subst (IsHere conn) (sym takes.after)
+        (keeps_here conn (arrived s).state (taken_hold_of slot takes.chan takes.text s) (hold_keeps slot takes.chan takes.text s)
+        (arrived_here conn s here))
+    by (inr none) = keeps_here conn s (after_dial linked slot s) (none_keeps {who = None} linked slot s none) here
+
 acted_here : (conn : ℕ) (act : Act) (s : Switch) → ClosesNone act → IsHere conn s → IsHere conn (act_done act s).state
-acted_here conn Arrive s such here = arrived_here conn s here
-acted_here conn (Take taker) s such here = record { there = here.there; hears = here.hears }
+acted_here conn Arrive s such here = left_here conn (arrived s).state (arrived_here conn s here)
+acted_here conn (Take taker) s such here =
+    left_here conn (with_frame_taken taker s) (record { there = here.there; hears = here.hears })
 acted_here conn (Close gone how) s such here = absurd such
+acted_here conn (Dialed slot linked) s such here = left_here conn (after_dial linked slot s) (dial_here conn linked slot s here)
 acted_here conn act s such here = keeps_here conn s (act_done act s).state (act_keeps act s) here
 
 -- a connection that is here is so behind each entry that closes none
@@ -118,4 +138,5 @@ pub arrival_here : (config : Configuration) (moment : ℕ) → IsWithin config �
 unfolding step
 arrival_here config moment within =
     fresh_here 1 (step (empty config) (record { moment = moment; act = Arrive })).state
-    (first_row config.settings.max_connections within.settings.connections.0)
+    (ap (λ (done : Acted). conn_of done.state 1) (arrive_done (at_moment moment (empty config)) (empty_none_left config))
+    ∙ first_row config.settings.max_connections within.settings.connections.0)

@@ -348,7 +348,7 @@ left_held slot s h = by (chan_at t slot) refl
 
     by : (found : Option Chan) → chan_at t slot ≡ found → HeldBut NoSlot (with_changed_chan_from at_leisure slot found t)
     by None is = none_closes slot t is k
-    by (Some c) is = put_closes slot c (at_leisure c) t is (rest_holds c.socket c.state) k
+    by (Some c) is = put_closes slot c (at_leisure c) t is (rest_holds None c.state) k
 
 -- ---- a channel leaves its bridge
 

@@ -14,6 +14,7 @@ use Rattle.fs_chan.specs.declared.wait.Wait.{Wait}
 use Rattle.fs_chan.specs.declared.wait.Wait.TheVariants.{Ready, Legs, Bridged}
 use Rattle.fs_chan.specs.Bridging.{awaiting, exported_pairs, bridged, in_media, with_disposition}
 use Rattle.fs_chan.specs.Changes.{at_rest}
+use Rattle.fs_chan.specs.Controlling.{held_by}
 use Rattle.fs_orig.specs.declared.caller.Caller.{Caller}
 use Rattle.fs_orig.specs.declared.orig.Orig.{Orig}
 use Rattle.fs_orig.specs.declared.orig.Owner.TheVariants as owner
@@ -36,6 +37,7 @@ use Rattle.fs_state.specs.Hangups.{legs_at, after_hangups}
 use Rattle.fs_state.specs.Bridging.{peer_of, with_peer_from, with_peer, joined_as}
 use Rattle.fs_machine.specs.Texts.{made_text, failed_text}
 use Rattle.fs_machine.specs.Connections.{conn_changed, admitted, parted, owed_since, not_owed, with_subs_changed}
+use Rattle.fs_machine.specs.Controlling.{coming_number}
 use Rattle.fs_machine.specs.Originations.{MadeGroup, group_made, won_by, after_winning}
 use Rattle.fs_machine.specs.Attempts.{first_group, orig_begun, originate_begun}
 use Rattle.fs_machine.specs.Bridging.{caller_of, group_dialed, goes_on, after_going_on, disposed, bridge_failed_from, after_bridge_failure}
@@ -46,9 +48,9 @@ use Rattle.fs_machine.specs.Leaving.{after_departure}
 use Rattle.fs_machine.specs.declared.owing.Giver.{Giver}
 use Rattle.fs_machine.specs.declared.owing.Giver.TheVariants as giver
 use Rattle.fs_machine.specs.Owing.{job_number, after_job_begin, background_begun, after_job_end}
-use Rattle.fs_machine.proofs.Kept.{Stage, Fact, hold_in, Links, Stays, KeptByTouches, KeptByCalls, KeptByBirths, raced, KeptByJobs, KeptByDials}
-use Rattle.fs_machine.proofs.Kept.{apart_by, goes_on_by, KeptByApi, KeptByCommands, KeptByMoves}
-use Rattle.fs_machine.proofs.StayLemmas.{moved_there, changed_there, orig_changed_channels}
+use Rattle.fs_machine.proofs.Kept.{Stage, Fact, hold_in, Links, Keeps, KeptByTouches, KeptByCalls, KeptByBirths, raced, KeptByJobs, KeptByDials}
+use Rattle.fs_machine.proofs.Kept.{apart_by, goes_on_by, let_go_by, KeptByApi, KeptByCommands, KeptByMoves}
+use Rattle.fs_machine.proofs.StayLemmas.{moved_there, changed_there, orig_changed_channels, held_keeps}
 use Rattle.fs_machine.proofs.CameLemmas.{rest_holds}
 use Rattle.fs_machine.proofs.ClosureLemmas.{NoneAtZero}
 use Rattle.fs_machine.proofs.NameLemmas.{leg_chan, far_chan, pair_channels}
@@ -94,10 +96,10 @@ hold_bridged (Legs orig) is = absurd (cc)
 hold_bridged Bridged is = refl
 hold_bridged _ is = absurd (let both : Ready ≡ Bridged = is in cc)
 
-stays_held : {b : Stage} (old new : Chan) → Stays b old new → IsHeld old → IsHeld new
-stays_held old new stays h held =
-    ap (λ (l : Links). is_some l.peer) stays.links
-    ∙ h (hold_bridged old.wait (sym (ap (λ (l : Links). l.hold) stays.links) ∙ ap hold_in held))
+keeps_held : {b : Stage} (old new : Chan) → Keeps b old new → IsHeld old → IsHeld new
+keeps_held old new keeps h held =
+    ap (λ (l : Links). is_some l.peer) keeps.links
+    ∙ h (hold_bridged old.wait (sym (ap (λ (l : Links). l.hold) keeps.links) ∙ ap hold_in held))
 
 put_held : (channels : Channels) (seat : ℕ) (new : Chan) → IsHeld new → HeldIn channels → HeldIn (with_held channels seat (Some new))
 put_held channels seat new held h slot c is = by (written_or_kept channels seat (Some new) slot c is)
@@ -119,7 +121,7 @@ held_touches : KeptByTouches (λ b s. AllHeld s)
 held_touches = record {
   told = λ event plain h. h;
   globals = λ globals h. h;
-  changed = λ slot old new {s = s} there stays h. put_held s.channels slot new (stays_held old new stays (h slot old there)) h;
+  changed = λ slot old new {s = s} there stays h. put_held s.channels slot new (keeps_held old new stays.keeps (h slot old there)) h;
   answers = λ seat slot number {s = s} h.
       changed_orig_held (leg_changed (λ position. with_answer position seat) slot) number s h;
 }
@@ -305,6 +307,7 @@ module _ (before : Switch) (Q : Fact) (kept : KeptByMoves before Q) (bonds : (b 
       q.originates groups winner caller timeout (goes_on_by Holding Q by s may (λ t k. k.0)) are short free h.0,
       originated_held by groups winner caller timeout s h.1,
     );
+    leavings = λ h. (q.leavings h.0, h.1);
     ends = λ reply notice dead h. (q.ends reply notice dead h.0, h.1);
   }
 
@@ -357,7 +360,8 @@ module _ (before : Switch) (Q : Fact) (kept : KeptByMoves before Q) (bonds : (b 
     gave = λ frame h. ((kept.commands conn).gave frame h.0, h.1);
     asked = λ change {s = s} h. ((kept.commands conn).asked change h.0, conn_held (with_subs_changed change) conn s h.1);
     admitted = λ {s = s} new h. ((kept.commands conn).admitted new h.0, conn_held admitted conn s h.1);
-    parted = λ why {s = s} leaves h. ((kept.commands conn).parted why leaves h.0, conn_held (parted why) conn s h.1);
+    parted = λ why {s = s} leaves was h.
+        ((kept.commands conn).parted why leaves (let_go_by was (λ t k. k.0)) h.0, conn_held (parted why) conn s h.1);
     backgrounds = λ given command {s = s} free h. (
       (kept.commands conn).backgrounds given command free h.0,
       background_held given command s h.1,
@@ -373,8 +377,14 @@ module _ (before : Switch) (Q : Fact) (kept : KeptByMoves before Q) (bonds : (b 
     visits = record {
       arrived = λ h. (kept.visits.arrived h.0, h.1);
       taken = λ conn h. (kept.visits.taken conn h.0, h.1);
-      silent = λ conn {s = s} h. (kept.visits.silent conn h.0, conn_held (parted parting.EndOfInput) conn s h.1);
-      left = λ conn h. (kept.visits.left conn h.0, h.1);
+      holds = λ slot c text {s = s} there waits free h. (
+        kept.visits.holds slot c text there waits free h.0,
+        put_held s.channels slot (held_by (coming_number s) c)
+            (keeps_held c (held_by (coming_number s) c) (held_keeps {b = None} (coming_number s) c text waits) (h.1 slot c there)) h.1,
+      );
+      silent = λ conn {s = s} was h.
+          (kept.visits.silent conn (let_go_by was (λ t k. k.0)) h.0, conn_held (parted parting.EndOfInput) conn s h.1);
+      left = λ conn was h. (kept.visits.left conn (let_go_by was (λ t k. k.0)) h.0, h.1);
       halted = λ reply notice dead h. (kept.visits.halted reply notice dead h.0, h.1);
     };
   }

@@ -7,6 +7,7 @@ use Rattle.fs_bridge.specs.Closure.{Members}
 use Rattle.fs_chan.specs.declared.chan.Chan.{Chan}
 use Rattle.fs_chan.specs.Bridging.{unbridged, in_media}
 use Rattle.fs_chan.specs.Changes.{at_rest, parked, hung_up}
+use Rattle.fs_chan.specs.Controlling.{held_by}
 use Rattle.fs_orig.specs.declared.winner.Winner.{Winner}
 use Rattle.fs_orig.specs.declared.winner.Winner.TheVariants.{App, Route}
 use Rattle.fs_seats.specs.Seats.{held_in}
@@ -119,11 +120,12 @@ module _ (x : Seen) where
     globals = λ globals h. h;
     joins = λ kind caller answerer {b = b} {s = s} can h.
         joins_by_remains (NumbersFrom x) (λ event b t k. k) (λ rows b t k. k)
-        (λ slot old new b t there remains k. put_numbers (freed_by b) slot old new t there remains.uuid k) kind caller answerer b s h;
+        (λ slot old new b t there remains holder k. put_numbers (freed_by b) slot old new t there remains.uuid k)
+        kind caller answerer b s h;
     parts = λ slot row {b = b} {s = s} part h.
         parts_by_remains (NumbersFrom x) (λ event b t k. k) (λ rows b t k. k)
-        (λ slot old new b t there remains k. put_numbers (freed_by b) slot old new t there remains.uuid k) row b s h;
-    remains = λ slot old new {b = b} {s = s} there remains h. put_numbers (freed_by b) slot old new s there remains.uuid h;
+        (λ slot old new b t there remains holder k. put_numbers (freed_by b) slot old new t there remains.uuid k) row b s h;
+    remains = λ slot old new {b = b} {s = s} there remains holder h. put_numbers (freed_by b) slot old new s there remains.uuid h;
     hung = λ named {b = b} {s = s} h. hung_numbers (freed_by b) named s h;
     more = λ {s = s} h. numbers_more x (seen s) h;
     gone = λ slot old {s = s} there dead h. numbers_then x (seen s) (put slot None (seen s)) h (numbers_gone (seen s) slot old there);
@@ -139,10 +141,11 @@ module _ (x : Seen) where
   pub numbers_moves : (before : Switch) → KeptByMoves before (NumbersFrom x)
   numbers_moves before =
       moves_by_front before (NumbersFrom x) same_numbers
-      (calls_by_remains before (NumbersFrom x) same_numbers remains_numbers births_numbers
+      (calls_by_remains before (NumbersFrom x) (λ b t u h e conns. same_numbers b t u h e) remains_numbers births_numbers
       (λ at u live h. media_numbers at u h))
       births_numbers
-      (dials_by_remains before (NumbersFrom x) same_numbers remains_numbers births_numbers
+      (dials_by_remains before (NumbersFrom x) (λ b t u h e conns. same_numbers b t u h e) remains_numbers births_numbers
       (λ at u live h. media_numbers at u h))
       (λ job who winner caller orig leg slots does won h. won_numbers winner (unwrap_or leg.slot 0) (raced slots before) h)
       (λ s h. numbers_drawn x (seen s) h)
+      (λ slot conn c text s there waits h. put_numbers 0 slot c (held_by conn c) s there refl h)

@@ -27,7 +27,7 @@ use Rattle.fs_machine.specs.Joining.{is_early, is_ready, is_answered, in_the_way
 use Rattle.fs_machine.specs.Texts.{same_channel, not_ready, not_answered, already_bridged}
 use Rattle.fs_machine.proofs.ShortLemmas.{left_holds, right_holds}
 use Rattle.fs_machine.proofs.Kept.{Stage, Stays, IsApart}
-use Rattle.fs_machine.proofs.StayLemmas.{exchange_lives, same_vars, moved_there, changed_there}
+use Rattle.fs_machine.proofs.StayLemmas.{same_holder, exchange_lives, same_vars, moved_there, changed_there}
 use Rattle.fs_machine.proofs.ClosureLemmas.{hangs_up}
 use Rattle.fs_machine.proofs.HangLemmas.{dies, Falls, Cut, Unbridged, Rests, Parks, given_up_kept, hangups_kept}
 
@@ -125,7 +125,7 @@ left_dials slot s = by (chan_at t slot) refl
     by (Some d) is c there =
         let here : held_in (with_held t.channels slot (Some (at_leisure d))) slot ≡ Some (at_leisure d) =
         held_here t.channels slot (Some (at_leisure d)) (held_within t.channels slot d is) in
-        ap awaited_by (same_Some c (at_leisure d) (sym there ∙ here)) ∙ rest_dials d.socket d.state
+        ap awaited_by (same_Some c (at_leisure d) (sym there ∙ here)) ∙ rest_dials None d.state
 
 -- a channel that dials nothing stays so, where the one that is changed does
 pub dials_put : (s : Switch) (slot seat : ℕ) (old new : Chan) → chan_at s seat ≡ Some old →
@@ -149,7 +149,7 @@ left_dials_still slot seat s h =
     let t : Switch = orig_given_up seat (option_and_then awaited_by (chan_at s seat)) s in
     let k : DialsNone t slot = given_up_dials slot seat (option_and_then awaited_by (chan_at s seat)) s h in
     changed_there (λ (u : Switch). DialsNone u slot) at_leisure seat t
-    (λ c there. dials_put t slot seat c (at_leisure c) there (λ none. rest_dials c.socket c.state) k) k
+    (λ c there. dials_put t slot seat c (at_leisure c) there (λ none. rest_dials None c.state) k) k
 
 -- ---- nothing stands in the way
 
@@ -278,15 +278,18 @@ media_stays s slot meets c there =
     let is : meets.chan ≡ c = same_Some meets.chan c (sym meets.there ∙ there) in
     let lone : c.leg_of ≡ None = ap (λ (d : Chan). d.leg_of) (sym is) ∙ meets.lone in
     record {
-      links = refl;
-      live = exchange_lives ∙ sym (ap is_live (sym is) ∙ meets.live);
-      short = λ short. short;
-      vars = same_vars c.vars c.vars refl;
-      apt = λ apt. record {
-        outbound = apt.outbound;
-        idle = λ some. absurd (false≢true (sym (ap is_some lone) ∙ some));
-        free = apt.free;
-        alone = apt.alone;
-        held = apt.held;
+      keeps = record {
+        links = refl;
+        live = exchange_lives ∙ sym (ap is_live (sym is) ∙ meets.live);
+        short = λ short. short;
+        vars = same_vars c.vars c.vars refl;
+        apt = λ apt. record {
+          outbound = apt.outbound;
+          idle = λ some. absurd (false≢true (sym (ap is_some lone) ∙ some));
+          free = apt.free;
+          alone = apt.alone;
+          held = apt.held;
+        };
       };
+      holder = same_holder refl refl;
     }

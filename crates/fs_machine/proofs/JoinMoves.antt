@@ -4,6 +4,7 @@ use Rattle.fs_text.specs.declared.causes.Cause.TheVariants.{LoseRace}
 use Rattle.fs_bridge.specs.declared.row.BridgeKind.{BridgeKind}
 use Rattle.fs_bridge.specs.declared.row.BridgeKind.TheVariants.{Dial}
 use Rattle.fs_chan.specs.Bridging.{in_media}
+use Rattle.fs_chan.specs.Controlling.{held_by}
 use Rattle.fs_orig.specs.Changes.{with_answer}
 use Rattle.fs_state.specs.Switch.{Switch, with_chan, without_orig, next_orig_number, with_event, with_next_identifier}
 use Rattle.fs_state.specs.Moves.{after_move, orig_changed, leg_changed}
@@ -112,6 +113,7 @@ module _ (before : Switch) where
       counts_same (Some 0) (raced slots before) (after_winning winner (unwrap_or leg.slot 0) (raced slots before)) h
       (won_drawn winner (unwrap_or leg.slot 0) (raced slots before)))
       (λ s h. spent_counts s (with_next_identifier s) h refl)
+      (λ slot conn c text s there waits h. counts_same (Some 0) s (with_chan slot (Some (held_by conn c)) s) h refl)
 
   -- so an act joins no more than one
   pub acted_joins : (act : Act) → (act_done act before).state.bridges.drawn ≤ before.bridges.drawn + 1

@@ -1,7 +1,7 @@
 -- Commands, work, jobs and the end of the switch keep all connections in their seats, with what waits for them, and end no input.
 use Rattle.std.proofs.Common.{◌≡◌, ◌≢◌, ℕ, Bool, true, false, List, length, Option, None, Some, unwrap_or, option_and_then, ◌⊎◌, inl, inr}
-use Rattle.std.proofs.Common.{map, option_map, refl, sym, ap, subst, ◌∙◌}
-use Rattle.std.proofs.lemmas.Bool.{cases_eq}
+use Rattle.std.proofs.Common.{map, option_map, not, if◌then◌else◌, refl, sym, ap, subst, ◌∙◌}
+use Rattle.std.proofs.lemmas.Bool.{both_ways, cases_eq}
 use Rattle.std.proofs.lemmas.List.{length-map}
 use Rattle.std.proofs.lemmas.Option.{same_Some, none-some}
 use Rattle.fs_text.specs.Texts.{Text}
@@ -21,6 +21,7 @@ use Rattle.fs_seats.proofs.RowLemmas.{each_put_at, length_put_at, SameNumbers, h
 use Rattle.fs_seats.proofs.RowLemmas.{row_of-with_row_same, row_of-with_row_other}
 use Rattle.fs_state.specs.Outboxes.{Frames}
 use Rattle.fs_state.specs.declared.conn.Conn.{Conn}
+use Rattle.fs_state.specs.declared.conn.Control.{Control}
 use Rattle.fs_state.specs.declared.conn.Phase.{Phase}
 use Rattle.fs_state.specs.declared.conn.Phase.TheVariants.{Fresh, Ready, Ending, Closed}
 use Rattle.fs_state.specs.declared.conn.Parting.{Parting}
@@ -29,7 +30,7 @@ use Rattle.fs_state.specs.declared.job.Asker.{Asker}
 use Rattle.fs_state.specs.declared.job.Asker.TheVariants as asker
 use Rattle.fs_state.specs.declared.job.JobWork.{JobWork}
 use Rattle.fs_state.specs.declared.job.JobWork.TheVariants.{Sleep, Originate}
-use Rattle.fs_state.specs.Switch.{Switch, conn_of, next_orig_number, with_new_job, without_job}
+use Rattle.fs_state.specs.Switch.{Switch, chan_at, conn_of, next_orig_number, with_new_job, without_job}
 use Rattle.fs_state.specs.Switch.{with_next_identifier}
 use Rattle.fs_state.specs.Switch.{without_orig, with_frame_now, with_notice, with_event}
 use Rattle.fs_state.specs.Ending.{released, released_in, ended}
@@ -50,7 +51,11 @@ use Rattle.fs_machine.specs.Commands.{command_done}
 use Rattle.fs_machine.specs.Work.{after_work}
 use Rattle.fs_machine.specs.Hangups.{all_slots, after_hangup_of_all}
 use Rattle.fs_machine.specs.Shutdown.{shutdown_event, stopped_reply, after_shutdown}
-use Rattle.fs_machine.specs.Step.{reads, is_closed, act_done}
+use Rattle.fs_machine.specs.Controlling.{is_held, is_left_in, is_left, conn_behind, after_letting_go, after_leavings}
+use Rattle.fs_machine.specs.Step.{reads, is_closed, after_close, act_done}
+use Rattle.fs_machine.specs.Concerns.{is_its_own}
+use Rattle.fs_machine.proofs.ControlLemmas.{behind_held, behind_numbers, left_off, behind_conn}
+use Rattle.fs_machine.proofs.Walk.{let_go_kept}
 use Rattle.fs_machine.proofs.Kept.{Fact, KeptByCalls, raced, KeptByApi, KeptByJobs, KeptByDials, LeavesBy, KeptByCommands}
 use Rattle.fs_machine.proofs.RestLemmas.{Rest, rest_of, calls_by_rest, dials_by_rest, group_made_rest, worked_rest, won_rest, hung_rest}
 use Rattle.fs_machine.proofs.ActWalk.{job_kept, commanded_kept}
@@ -66,7 +71,7 @@ abbrev pub sockets_of : Switch → Sockets
 sockets_of s = record { conns = s.conns; outboxes = s.outboxes; drawn = s.drawn.conns }
 
 -- the rest tells them
-sockets_same : (s t : Switch) → rest_of t ≡ rest_of s → sockets_of t ≡ sockets_of s
+pub sockets_same : (s t : Switch) → rest_of t ≡ rest_of s → sockets_of t ≡ sockets_of s
 sockets_same s t same =
     ap (λ (r : Rest). let sockets : Sockets = record { conns = r.conns; outboxes = r.outboxes; drawn = r.conns_drawn } in sockets) same
 
@@ -84,11 +89,13 @@ pub record IsLeft (old new : Option Conn) : Type 0 where
   pub phase : phase_of new ≡ phase_of old
   pub parting : option_and_then parting_of new ≡ option_and_then parting_of old
 
--- it read commands, and has parted by the end of the switch
+-- it read commands, and has parted by the end of the switch, or as its channel left
 pub record IsStopped (old new : Option Conn) : Type 0 where
   pub read : reads (phase_of old) ≡ true
   pub ending : phase_of new ≡ Ending
-  pub parting : option_and_then parting_of new ≡ Some parting.Stopped
+  pub why : Parting
+  pub parting : option_and_then parting_of new ≡ Some why
+  pub others : is_its_own why ≡ false
 
 -- it is left or stopped, and is owed nothing if it was owed nothing
 pub record Settles (old new : Option Conn) : Type 0 where
@@ -107,11 +114,29 @@ ways_on : (old mid new : Option Conn) → IsLeft old mid ⊎ IsStopped old mid �
 ways_on old mid new (inl first) (inl second) =
     inl (record { phase = second.phase ∙ first.phase; parting = second.parting ∙ first.parting })
 ways_on old mid new (inl first) (inr second) =
-    inr (record { read = sym (ap reads first.phase) ∙ second.read; ending = second.ending; parting = second.parting })
+    inr (record {
+      read = sym (ap reads first.phase) ∙ second.read;
+      ending = second.ending;
+      why = second.why;
+      parting = second.parting;
+      others = second.others;
+    })
 ways_on old mid new (inr first) (inl second) =
-    inr (record { read = first.read; ending = second.phase ∙ first.ending; parting = second.parting ∙ first.parting })
+    inr (record {
+      read = first.read;
+      ending = second.phase ∙ first.ending;
+      why = first.why;
+      parting = second.parting ∙ first.parting;
+      others = first.others;
+    })
 ways_on old mid new (inr first) (inr second) =
     let none : reads Ending ≡ true = sym (ap reads first.ending) ∙ second.read in absurd (cc none)
+
+pub settles_trans : (old mid new : Option Conn) → Settles old mid → Settles mid new → Settles old new
+settles_trans old mid new first second = record {
+  way = ways_on old mid new first.way second.way;
+  owed = λ none. second.owed (first.owed none);
+}
 
 -- its input has not ended
 abbrev pub Hears : Option Conn → Type 0
@@ -126,7 +151,9 @@ settled_hears old new settles heard = by settles.way
   where
     by : IsLeft old new ⊎ IsStopped old new → Hears new
     by (inl stays) same = heard (sym stays.parting ∙ same)
-    by (inr stops) same = let none : Some parting.Stopped ≡ Some parting.EndOfInput = sym stops.parting ∙ same in cc none
+    by (inr stops) same =
+        let is : stops.why ≡ parting.EndOfInput = same_Some stops.why parting.EndOfInput (sym stops.parting ∙ same) in
+        both_ways (is_its_own stops.why) stops.others (ap is_its_own is)
 
 -- The connections of one switch stand where those of another do, and the same waits for them. All settle but the one, if there is one,
 -- whose
@@ -162,10 +189,8 @@ keeps_trans s t u first second = record {
   outboxes = second.outboxes ∙ first.outboxes;
   drawn = second.drawn ∙ first.drawn;
   opened = λ each. second.opened (first.opened each);
-  others = λ number apart. record {
-    way = ways_on (conn_of s number) (conn_of t number) (conn_of u number) (first.others number apart).way (second.others number apart).way;
-    owed = λ none. (second.others number apart).owed ((first.others number apart).owed none);
-  };
+  others = λ number apart.
+      settles_trans (conn_of s number) (conn_of t number) (conn_of u number) (first.others number apart) (second.others number apart);
   hears = λ none number heard. second.hears none number (first.hears none number heard);
 }
 
@@ -248,12 +273,14 @@ ends_input parting.Exit = false
 ends_input parting.AuthRefused = false
 ends_input parting.EndOfInput = true
 ends_input parting.Stopped = false
+ends_input parting.ChannelLeft = false
 
 parted_hears : (why : Parting) → HearsOn (ends_input why) (parted why)
 parted_hears parting.Exit none c heard same = cc
 parted_hears parting.AuthRefused none c heard same = cc
 parted_hears parting.EndOfInput none c heard same = cc
 parted_hears parting.Stopped none c heard same = cc
+parted_hears parting.ChannelLeft none c heard same = cc
 
 parted_keeps : (why : Parting) (conn : ℕ) (s : Switch) → Keeps (Some conn) (ends_input why) s (conn_changed (parted why) conn s)
 parted_keeps why conn s = own_changed_keeps (parted why) (λ c h. refl) (parted_hears why) conn s
@@ -266,8 +293,14 @@ let_off_settles None = settles_same None None refl
 let_off_settles (Some c) = by c.phase refl
   where
     by : (now : Phase) → c.phase ≡ now → Settles (Some c) (Some (released_in now c))
-    by Fresh is = record { way = inr (record { read = ap reads is; ending = refl; parting = refl }); owed = λ none. refl }
-    by Ready is = record { way = inr (record { read = ap reads is; ending = refl; parting = refl }); owed = λ none. refl }
+    by Fresh is = record {
+      way = inr (record { read = ap reads is; ending = refl; why = parting.Stopped; parting = refl; others = refl });
+      owed = λ none. refl;
+    }
+    by Ready is = record {
+      way = inr (record { read = ap reads is; ending = refl; why = parting.Stopped; parting = refl; others = refl });
+      owed = λ none. refl;
+    }
     by Ending is = record { way = inl (record { phase = refl; parting = refl }); owed = λ none. refl }
     by Closed is = record { way = inl (record { phase = refl; parting = refl }); owed = λ none. refl }
 
@@ -296,6 +329,56 @@ stop_keeps reply notice s = record {
   others = λ number apart. stop_settles reply notice s number;
   hears = λ none number. settled_hears (conn_of s number) (conn_of (ended reply notice s) number) (stop_settles reply notice s number);
 }
+
+-- ---- those part whose channel has left
+
+-- each settles
+left_off_settles : (s : Switch) (number : ℕ) (found : Option Conn) → Settles found (option_map (left_off s number) found)
+left_off_settles s number None = settles_same None None refl
+left_off_settles s number (Some c) = by c.phase c.control refl
+  where
+    by : (now : Phase) (control : Option Control) → c.phase ≡ now →
+        Settles (Some c) (Some (if is_left_in s number now control then parted parting.ChannelLeft c else c))
+    by Ready (Some control) is = either (not (is_held number (chan_at s control.slot)))
+      where
+        either : (left : Bool) → Settles (Some c) (Some (if left then parted parting.ChannelLeft c else c))
+        either true = record {
+          way = inr (record { read = ap reads is; ending = refl; why = parting.ChannelLeft; parting = refl; others = refl });
+          owed = λ none. none;
+        }
+        either false = settles_same (Some c) (Some c) refl
+    by Ready None is = settles_same (Some c) (Some c) refl
+    by Fresh control is = settles_same (Some c) (Some c) refl
+    by Ending control is = settles_same (Some c) (Some c) refl
+    by Closed control is = settles_same (Some c) (Some c) refl
+
+-- and none goes
+left_open : (s : Switch) (held : Option (Numbered Conn)) → is_shut held ≡ false → is_shut (conn_behind s held) ≡ false
+left_open s None shut = refl
+left_open s (Some row) shut = by (is_left s row)
+  where
+    by : (left : Bool) →
+        is_shut (Some (if left then record { number = row.number; held = parted parting.ChannelLeft row.held } else row)) ≡ false
+    by true = refl
+    by false = shut
+
+pub left_settles : (s : Switch) (number : ℕ) → Settles (conn_of s number) (conn_of (after_leavings s) number)
+left_settles s number = subst (Settles (conn_of s number)) (sym (behind_conn s number)) (left_off_settles s number (conn_of s number))
+
+pub leavings_keep : {who : Option ℕ} {may_end : Bool} → (s : Switch) → Keeps who may_end s (after_leavings s)
+leavings_keep s = record {
+  numbers = behind_numbers s s.conns;
+  seats = length-map s.conns (conn_behind s);
+  outboxes = refl;
+  drawn = refl;
+  opened = λ each seat. ap is_shut (behind_held s s.conns seat) ∙ left_open s (held_in s.conns seat) (each seat);
+  others = λ number apart. left_settles s number;
+  hears = λ none number. settled_hears (conn_of s number) (conn_of (after_leavings s) number) (left_settles s number);
+}
+
+-- so it is with them behind a change
+pub keeps_left : {who : Option ℕ} {may_end : Bool} → (s t : Switch) → Keeps who may_end s t → Keeps who may_end s (after_leavings t)
+keeps_left s t keeps = keeps_trans s t (after_leavings t) keeps (leavings_keep t)
 
 -- ---- jobs
 
@@ -357,6 +440,7 @@ module _ (by : Giver) (s : Switch) where
     draws = λ {s = t} h. keeps_on s t (with_next_identifier t) h refl;
     sleeps = λ until may room h. sleeps_keep until h;
     originates = λ groups winner caller timeout may are short room h. originates_keep groups winner caller timeout h;
+    leavings = λ {s = t} h. keeps_left s t h;
     ends = λ reply notice {s = t} dead h. keeps_trans s t (ended reply notice t) h (stop_keeps reply notice t);
   }
 
@@ -415,6 +499,7 @@ module _ (conn : ℕ) (s : Switch) where
       keeps_trans s t (conn_changed (parted parting.AuthRefused) conn t) h (parted_keeps parting.AuthRefused conn t)
   leaves_keeps parting.EndOfInput leaves h = absurd leaves
   leaves_keeps parting.Stopped leaves h = absurd leaves
+  leaves_keeps parting.ChannelLeft leaves h = absurd leaves
 
   background_keeps : (given : Option Text) (command : Text) {t : Switch} → Keeps (Some conn) false s t →
       Keeps (Some conn) false s (background_begun given command t)
@@ -428,7 +513,7 @@ module _ (conn : ℕ) (s : Switch) where
     gave = λ frame h. gave_keeps frame h;
     asked = λ change h. asked_keeps change h;
     admitted = λ fresh h. admitted_keeps fresh h;
-    parted = λ why leaves h. leaves_keeps why leaves h;
+    parted = λ why leaves was h. leaves_keeps why leaves h;
     backgrounds = λ given command room h. background_keeps given command h;
   }
 
@@ -447,11 +532,35 @@ commanded_keeps conn command s =
 halt_keeps : (s : Switch) → Keeps None false s (after_shutdown s)
 unfolding after_shutdown
 halt_keeps s =
-    let told : Switch = with_event shutdown_event (after_hangup_of_all SystemShutdown s) in
+    let hung : Switch = after_hangup_of_all SystemShutdown s in
+    let told : Switch = with_event shutdown_event (after_leavings hung) in
     keeps_trans s told (ended stopped_reply notice told)
-    (keeps_same s told
-    (sockets_same s (after_hangup_of_all SystemShutdown s) (hung_rest (map (λ slot. (slot, SystemShutdown)) (all_slots s)) s)))
+    (keeps_on s (after_leavings hung) told
+    (keeps_left s hung
+    (keeps_same s hung (sockets_same s hung (hung_rest (map (λ slot. (slot, SystemShutdown)) (all_slots s)) s))))
+    refl)
     (stop_keeps stopped_reply notice told)
+
+-- ---- a connection lets its channel go
+
+freed_rest : (conn : ℕ) (s : Switch) → rest_of (after_letting_go conn s) ≡ rest_of s
+freed_rest conn s =
+    let_go_kept (λ b t. rest_of t ≡ rest_of s)
+    (calls_by_rest (λ b t. rest_of t ≡ rest_of s) (λ b t u h same. same ∙ h) (λ t h. h)).touches conn {b = None} {s = s} refl
+
+pub freed_sockets : (conn : ℕ) (s : Switch) → sockets_of (after_letting_go conn s) ≡ sockets_of s
+freed_sockets conn s = sockets_same s (after_letting_go conn s) (freed_rest conn s)
+
+pub freed_keeps : {who : Option ℕ} {may_end : Bool} → (conn : ℕ) (s : Switch) → Keeps who may_end s (after_letting_go conn s)
+freed_keeps conn s = keeps_same s (after_letting_go conn s) (freed_sockets conn s)
+
+-- and its input ends
+silent_keeps : (conn : ℕ) (s : Switch) → Keeps (Some conn) true s (after_close closing.EndOfInput conn s)
+silent_keeps conn s =
+    let free : Switch = after_letting_go conn s in
+    keeps_trans s free (after_close closing.EndOfInput conn s) (freed_keeps conn s) (parted_keeps parting.EndOfInput conn free)
+
+-- ---- all acts
 
 -- those that open no connection, close none, and take no frame
 abbrev pub ActKeeps : Act → Switch → Type 0
@@ -459,14 +568,16 @@ ActKeeps act.Arrive s = Unit {0}
 ActKeeps (act.Take conn) s = Unit {0}
 ActKeeps (act.Close conn closing.Sent) s = Unit {0}
 ActKeeps (act.Close conn closing.Failed) s = Unit {0}
+ActKeeps (act.Dialed slot linked) s = Unit {0}
 ActKeeps (act.Close conn closing.EndOfInput) s = Keeps (Some conn) true s (act_done (act.Close conn closing.EndOfInput) s).state
 ActKeeps (act.Command conn block) s = Keeps (Some conn) false s (act_done (act.Command conn block) s).state
 ActKeeps other s = Keeps None false s (act_done other s).state
 
 pub act_keeps : (a : Act) (s : Switch) → ActKeeps a s
-act_keeps (act.Command conn block) s = commanded_keeps conn (command_of block) s
-act_keeps (act.Close conn closing.EndOfInput) s = parted_keeps parting.EndOfInput conn s
-act_keeps (act.Work slot) s = work_keeps slot s
-act_keeps (act.Job number) s = job_done_keeps number s
-act_keeps act.Halt s = halt_keeps s
+act_keeps (act.Command conn block) s =
+    keeps_left s (command_done conn (command_of block) s) (commanded_keeps conn (command_of block) s)
+act_keeps (act.Close conn closing.EndOfInput) s = keeps_left s (after_close closing.EndOfInput conn s) (silent_keeps conn s)
+act_keeps (act.Work slot) s = keeps_left s (after_work slot s) (work_keeps slot s)
+act_keeps (act.Job number) s = keeps_left s (job_done number s) (job_done_keeps number s)
+act_keeps act.Halt s = keeps_left s (after_shutdown s) (halt_keeps s)
 act_keeps _ s = tt

@@ -13,9 +13,10 @@ use Rattle.fs_chan.specs.declared.chan.Chan.{Chan}
 use Rattle.fs_chan.specs.declared.peer.Direction.TheVariants.{Outbound}
 use Rattle.fs_chan.specs.declared.peer.Peer.{Peer}
 use Rattle.fs_chan.specs.declared.wait.Wait.{Wait}
-use Rattle.fs_chan.specs.declared.wait.Wait.TheVariants.{Ready, Legs, Bridged}
+use Rattle.fs_chan.specs.declared.wait.Wait.TheVariants.{Ready, Legs, Bridged, Dial}
 use Rattle.fs_chan.specs.Bridging.{awaited_by}
 use Rattle.fs_chan.specs.Changes.{is_live, IsShortTarget, HasShortFields}
+use Rattle.fs_chan.specs.Controlling.{dial_of}
 use Rattle.fs_orig.specs.declared.caller.Caller.{Caller}
 use Rattle.fs_orig.specs.declared.leg.OrigLeg.{OrigLeg}
 use Rattle.fs_orig.specs.declared.orig.Orig.{Orig}
@@ -37,7 +38,7 @@ use Rattle.fs_state.specs.declared.job.Asker.TheVariants as asker
 use Rattle.fs_state.specs.declared.job.Background.{Background}
 use Rattle.fs_state.specs.declared.job.JobWork.{JobWork}
 use Rattle.fs_state.specs.declared.job.JobWork.TheVariants as work
-use Rattle.fs_state.specs.Switch.{Switch, chan_at, with_chan, bridge_at, is_full_of_jobs, job_of, without_job, without_conn}
+use Rattle.fs_state.specs.Switch.{Switch, chan_at, with_chan, bridge_at, is_full_of_jobs, is_full_of_conns, job_of, without_job, without_conn}
 use Rattle.fs_state.specs.Switch.{with_frame_taken}
 use Rattle.fs_state.specs.Switch.{with_event}
 use Rattle.fs_state.specs.Switch.{next_orig_number, orig_of, without_orig, with_frame_now, with_notice, with_next_identifier}
@@ -52,6 +53,7 @@ use Rattle.fs_machine.specs.declared.owing.Giver.{Giver}
 use Rattle.fs_machine.specs.declared.owing.Giver.TheVariants as giver
 use Rattle.fs_machine.specs.EventNames.{can_tell}
 use Rattle.fs_machine.specs.Connections.{phase_at, conn_changed, admitted, parted, with_subs_changed}
+use Rattle.fs_machine.specs.Controlling.{names_target, taken_hold_of, after_letting_go, after_leavings}
 use Rattle.fs_machine.specs.Originations.{pair_made, is_misnamed, target_of, group_made}
 use Rattle.fs_machine.specs.Bridging.{after_bridge_failure, after_bridge_win, group_dialed}
 use Rattle.fs_machine.specs.Attempts.{first_group, originate_begun, awaits, failed_for, won_in, won_for, death_of, with_group}
@@ -113,12 +115,27 @@ pub record KeepsVars (b : Stage) (old new : Variables) : Type 0 where
   pub cause : is_some b ≡ true → value_of new.pairs cause_key ≡ value_of old.pairs cause_key
 
 -- a channel keeps what others know of it, lives just if it lived, and its texts and variables stay within their limits
-pub record Stays (b : Stage) (old new : Chan) : Type 0 where
+pub record Keeps (b : Stage) (old new : Chan) : Type 0 where
   pub links : links_of new ≡ links_of old
   pub live : is_live new ≡ is_live old
   pub short : HasShortFields old.profile → HasShortFields new.profile
   pub apt : IsApt old → IsApt new
   pub vars : KeepsVars b old.vars new.vars
+
+-- where a channel waits for a controller, a text names one
+abbrev pub IsDialable : Wait → Type 0
+IsDialable (Dial text) = names_target text ≡ true
+IsDialable _ = Unit {0}
+
+-- the connection that holds a channel holds it still, or none does, and whom it waits for can be dialed
+pub record KeepsHold (old new : Chan) : Type 0 where
+  pub socket : (new.socket ≡ old.socket) ⊎ (new.socket ≡ None)
+  pub dials : IsDialable old.wait → IsDialable new.wait
+
+-- so does a channel that stays what it is to others
+pub record Stays (b : Stage) (old new : Chan) : Type 0 where
+  pub keeps : Keeps b old new
+  pub holder : KeepsHold old new
 
 -- an event tells neither that a bridge begins nor that one has ended
 abbrev pub IsOfNoBridge : Detail → Type 0
@@ -268,6 +285,7 @@ pub record KeptByApi (by : Giver) (P : Fact) : Type 0 where
   pub originates : (groups : List (List LegPlan)) (winner : Winner) (caller : Caller) (timeout : Option ℕ) {s : Switch} →
       MayGoOn P by s → AreGroups groups → IsShortWinner winner → is_full_of_jobs s ≡ false → P None s →
       P (Some 0) (originate_begun by groups winner caller timeout s)
+  pub leavings : {n : ℕ} {s : Switch} → P (Some n) s → P (Some n) (after_leavings s)
   pub ends : (reply notice : Text) {s : Switch} → AreDead s → P (Some 0) s → P (Some 1) (ended reply notice s)
 
 -- the jobs that run a command, and those that end
@@ -314,6 +332,17 @@ LeavesBy parting.Exit = Unit {0}
 LeavesBy parting.AuthRefused = Unit {0}
 LeavesBy parting.EndOfInput = ⊥
 LeavesBy parting.Stopped = ⊥
+LeavesBy parting.ChannelLeft = ⊥
+
+-- nothing had begun in the entry but that the connection of a number let its channel go
+pub record WasLetGo (P : Fact) (conn : ℕ) (s : Switch) : Type 0 where
+  pub past : Switch
+  pub first : P None past
+  pub left : s ≡ after_letting_go conn past
+
+-- so it was by what a fact tells
+pub let_go_by : {P Q : Fact} {conn : ℕ} {s : Switch} → WasLetGo P conn s → ((t : Switch) → P None t → Q None t) → WasLetGo Q conn s
+let_go_by was tells = record { past = was.past; first = tells was.past was.first; left = was.left }
 
 -- what the commands of a connection do
 pub record KeptByCommands (conn : ℕ) (P : Fact) : Type 0 where
@@ -323,16 +352,21 @@ pub record KeptByCommands (conn : ℕ) (P : Fact) : Type 0 where
   pub asked : (change : Subscription → Subscription) {n : ℕ} {s : Switch} → P (Some n) s →
       P (Some n) (conn_changed (with_subs_changed change) conn s)
   pub admitted : {n : ℕ} {s : Switch} → phase_at s conn ≡ Fresh → P (Some n) s → P (Some n) (conn_changed admitted conn s)
-  pub parted : (why : Parting) {n : ℕ} {s : Switch} → LeavesBy why → P (Some n) s → P (Some n) (conn_changed (parted why) conn s)
+  pub parted : (why : Parting) {n : ℕ} {s : Switch} → LeavesBy why → WasLetGo P conn s → P (Some n) s →
+      P (Some n) (conn_changed (parted why) conn s)
   pub backgrounds : (given : Option Text) (command : Text) {s : Switch} → is_full_of_jobs s ≡ false → P None s →
       P (Some 1) (background_begun given command s)
 
--- how connections come and go, and take their frames, and how the switch is brought to its end by nobody's command
+-- how connections come and go, take hold of the channels for which they were dialed, and take their frames, and how the switch is brought
+-- to its end by nobody's command
 pub record KeptByVisits (P : Fact) : Type 0 where
   pub arrived : {s : Switch} → P None s → P (Some 0) (arrived s).state
   pub taken : (conn : ℕ) {s : Switch} → P (Some 0) s → P (Some 0) (with_frame_taken conn s)
-  pub silent : (conn : ℕ) {s : Switch} → P (Some 0) s → P (Some 0) (conn_changed (parted parting.EndOfInput) conn s)
-  pub left : (conn : ℕ) {s : Switch} → P (Some 0) s → P (Some 0) (without_conn conn s)
+  pub holds : (slot : ℕ) (c : Chan) (text : Text) {s : Switch} → chan_at s slot ≡ Some c → dial_of c ≡ Some text →
+      is_full_of_conns s ≡ false → P None s → P (Some 0) (taken_hold_of slot c text s)
+  pub silent : (conn : ℕ) {s : Switch} → WasLetGo P conn s → P (Some 0) s →
+      P (Some 0) (conn_changed (parted parting.EndOfInput) conn s)
+  pub left : (conn : ℕ) {s : Switch} → WasLetGo P conn s → P (Some 0) s → P (Some 0) (without_conn conn s)
   pub halted : (reply notice : Text) {s : Switch} → AreDead s → P (Some 0) s → P (Some 1) (ended reply notice s)
 
 -- every move of an entry that begins in a switch

@@ -159,6 +159,7 @@ early_api before by = record {
   draws = λ {s = s} h. early_spent before s h;
   sleeps = λ until {s = s} may room h. begun_early before by (Sleep until) s (early_spent before s h);
   originates = λ groups winner caller timeout {s = s} may are short room h. originated_early before by groups winner caller timeout s h;
+  leavings = λ h. h;
   ends = λ reply notice dead h. h;
 }
 
@@ -194,14 +195,15 @@ early_moves before = record {
     gave = λ frame {b = b} {s = s} h. early_gave before b conn frame s h;
     asked = λ change {n = n} {s = s} h. conn_early before n (with_subs_changed change) conn s h;
     admitted = λ {n = n} {s = s} fresh h. conn_early before n admitted conn s h;
-    parted = λ why {n = n} {s = s} leaves h. conn_early before n (parted why) conn s h;
+    parted = λ why {n = n} {s = s} leaves was h. conn_early before n (parted why) conn s h;
     backgrounds = λ given command {s = s} room h. background_early before given command s h;
   };
   visits = record {
     arrived = λ {s = s} h. early_spent before s h;
     taken = λ conn h. h;
-    silent = λ conn {s = s} h. conn_early before 0 (parted parting.EndOfInput) conn s h;
-    left = λ conn h. h;
+    holds = λ slot c text {s = s} there waits room h. early_spent before s h;
+    silent = λ conn {s = s} was h. conn_early before 0 (parted parting.EndOfInput) conn s h;
+    left = λ conn was h. h;
     halted = λ reply notice dead h. h;
   };
 }

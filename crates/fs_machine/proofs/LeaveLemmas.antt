@@ -1,6 +1,6 @@
 -- A channel leaves what it was in and lives on, step by step: a fact is kept that bears each single step.
 use Rattle.std.proofs.Common.{◌≡◌, ℕ, true, false, [], ◌∷◌, Option, None, Some, is_some, refl, sym, ap}
-use Rattle.std.proofs.Common.{◌∙◌, option_and_then}
+use Rattle.std.proofs.Common.{◌∙◌, option_and_then, inl, inr}
 use Rattle.std.specs.Prelude.{option_to_list}
 use Rattle.std.proofs.lemmas.Bool.{false≢true}
 use Rattle.std.proofs.lemmas.Option.{none-some, same_Some}
@@ -25,9 +25,9 @@ use Rattle.fs_state.specs.Hangups.{row_at, unbridge_event, after_end, after_surv
 use Rattle.fs_state.specs.Leaving.{dropped_by, left_behind, after_parting, after_leaving_others}
 use Rattle.fs_machine.specs.Joining.{after_leaving}
 use Rattle.fs_machine.specs.Leaving.{after_departure}
-use Rattle.fs_machine.proofs.Kept.{Stage, hold_in, Links, links_of, Stays}
+use Rattle.fs_machine.proofs.Kept.{Stage, hold_in, Links, links_of, KeepsHold, Stays}
 use Rattle.fs_machine.proofs.ShortLemmas.{sent_short}
-use Rattle.fs_machine.proofs.StayLemmas.{same_vars, free_links, rest_free, rest_links, park_lives, routing_lives}
+use Rattle.fs_machine.proofs.StayLemmas.{rest_holder, same_vars, free_links, rest_free, rest_links, park_lives, routing_lives}
 use Rattle.fs_machine.proofs.HangLemmas.{Settles, ends_kept_by, survivals_kept_by}
 
 -- what holds once those are hung up whom the channel in a slot drops, and stays where the other leg outlives the bridge
@@ -90,24 +90,27 @@ left_free slot s c there = by (chan_at t slot) refl there
     by (Some d) is there =
         let here : held_in (with_held t.channels slot (Some (at_leisure d))) slot ≡ Some (at_leisure d) =
         held_here t.channels slot (Some (at_leisure d)) (held_within t.channels slot d is) in
-        ap (λ (x : Chan). hold_in x.wait) (same_Some c (at_leisure d) (sym there ∙ here)) ∙ rest_free d.socket d.state
+        ap (λ (x : Chan). hold_in x.wait) (same_Some c (at_leisure d) (sym there ∙ here)) ∙ rest_free None d.state
 
 -- it goes where it is sent, or parks
 sent_stays : {b : Stage} (c d : Chan) → is_live c ≡ true → c.leg_of ≡ None → hold_in c.wait ≡ Ready → links_of d ≡ free_links c →
-    is_live d ≡ true → (HasShortFields c.profile → HasShortFields d.profile) → d.vars ≡ c.vars → Stays b c d
-sent_stays c d live lone free links lives short vars = record {
-  links = links
-      ∙ ap (λ (hold : Wait). record { uuid = c.uuid; partner = c.partner; peer = c.peer; leg_of = c.leg_of; hold = hold }) (sym free);
-  live = lives ∙ sym live;
-  short = short;
-  vars = same_vars c.vars d.vars vars;
-  apt = λ apt. record {
-    outbound = λ some. absurd (no_leg some);
-    idle = λ some. absurd (no_leg some);
-    free = λ some. absurd (no_leg some);
-    alone = λ some. leg ∙ lone;
-    held = λ some. absurd (no_peer (apt.held (ap is_some (sym peer) ∙ some)));
+    is_live d ≡ true → (HasShortFields c.profile → HasShortFields d.profile) → d.vars ≡ c.vars → KeepsHold c d → Stays b c d
+sent_stays c d live lone free links lives short vars holder = record {
+  keeps = record {
+    links = links
+        ∙ ap (λ (hold : Wait). record { uuid = c.uuid; partner = c.partner; peer = c.peer; leg_of = c.leg_of; hold = hold }) (sym free);
+    live = lives ∙ sym live;
+    short = short;
+    vars = same_vars c.vars d.vars vars;
+    apt = λ apt. record {
+      outbound = λ some. absurd (no_leg some);
+      idle = λ some. absurd (no_leg some);
+      free = λ some. absurd (no_leg some);
+      alone = λ some. leg ∙ lone;
+      held = λ some. absurd (no_peer (apt.held (ap is_some (sym peer) ∙ some)));
+    };
   };
+  holder = holder;
 }
   where
     leg : d.leg_of ≡ c.leg_of
@@ -124,8 +127,10 @@ sent_stays c d live lone free links lives short vars = record {
 
 pub parked_stays : {b : Stage} (c : Chan) → is_live c ≡ true → c.leg_of ≡ None → hold_in c.wait ≡ Ready → Stays b c (parked c)
 parked_stays c live lone free = sent_stays c (parked c) live lone free (rest_links c CsPark) park_lives (λ short. short) refl
+    (rest_holder c.socket CsPark (inl refl) refl)
 
 pub transferred_stays : {b : Stage} (to : Target3) (c : Chan) → IsShortTarget to → is_live c ≡ true → c.leg_of ≡ None → hold_in c.wait ≡ Ready →
     Stays b c (transferred to c)
 transferred_stays to c short live lone free =
     sent_stays c (transferred to c) live lone free refl routing_lives (sent_short to c.profile short) refl
+    (record { socket = inr refl; dials = λ h. tt })

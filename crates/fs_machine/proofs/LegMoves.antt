@@ -13,6 +13,7 @@ use Rattle.fs_bridge.specs.Closure.{Members}
 use Rattle.fs_chan.specs.declared.chan.Chan.{Chan}
 use Rattle.fs_chan.specs.Changes.{is_live, at_rest}
 use Rattle.fs_chan.specs.Bridging.{awaiting, awaited_by, bridged, in_media, at_leisure, exported_pairs}
+use Rattle.fs_chan.specs.Controlling.{held_by}
 use Rattle.fs_orig.specs.declared.caller.Caller.{Caller}
 use Rattle.fs_orig.specs.declared.leg.OrigLeg.{OrigLeg}
 use Rattle.fs_orig.specs.declared.orig.Orig.{Orig}
@@ -33,7 +34,7 @@ use Rattle.fs_state.specs.declared.job.Asker.TheVariants as asker
 use Rattle.fs_state.specs.declared.job.JobWork.{JobWork}
 use Rattle.fs_state.specs.declared.job.JobWork.TheVariants.{Sleep, Originate}
 use Rattle.fs_state.specs.Switch.{Switch, chan_at, with_chan, next_orig_number, orig_of, without_orig, with_new_job, without_job}
-use Rattle.fs_state.specs.Switch.{with_bridge}
+use Rattle.fs_state.specs.Switch.{with_bridge, with_new_conn}
 use Rattle.fs_state.specs.Moves.{after_move_from, orig_changed_from, orig_changed, leg_changed, with_changed_chan, after_move}
 use Rattle.fs_state.specs.Moves.{orig_given_up}
 use Rattle.fs_state.specs.Hangups.{after_hangups}
@@ -41,6 +42,7 @@ use Rattle.fs_state.specs.Bridging.{peer_of, with_peer_from, with_peer, joined_a
 use Rattle.fs_state.proofs.LegTables.{berthed, berth_at, in_slot, berth_number, without_fewer}
 use Rattle.fs_machine.specs.Texts.{made_text, failed_text}
 use Rattle.fs_machine.specs.Connections.{conn_changed, admitted, parted, owed_since, not_owed, with_subs_changed}
+use Rattle.fs_machine.specs.Controlling.{coming_number, controller}
 use Rattle.fs_machine.specs.Originations.{MadeGroup, group_made, won_by, after_winning}
 use Rattle.fs_machine.specs.Attempts.{first_group, orig_begun, tried_by_job, originate_begun, with_group}
 use Rattle.fs_machine.specs.declared.owing.Giver.{Giver}
@@ -147,7 +149,7 @@ legs_touches = record {
   told = λ event plain h. h;
   globals = λ globals h. h;
   changed = λ slot old new {s = s} there stays h few.
-      put_legs slot old new s there (ap (λ (l : Links). l.leg_of) stays.links) stays.live (h few);
+      put_legs slot old new s there (ap (λ (l : Links). l.leg_of) stays.keeps.links) stays.keeps.live (h few);
   answers = λ seat slot number {s = s} h.
       legs_then s (orig_changed (leg_changed (λ position. with_answer position seat) slot) number s)
       (orig_changed_drawn (leg_changed (λ position. with_answer position seat) slot) number s)
@@ -250,7 +252,7 @@ won_touches orig slot = record {
   told = λ event plain h. record { legs = h.legs; ended = h.ended; names = h.names };
   globals = λ globals h. record { legs = h.legs; ended = h.ended; names = h.names };
   changed = λ seat old new {s = s} there stays h.
-      put_won orig slot seat old new s there (ap (λ (l : Links). l.leg_of) stays.links) stays.live h;
+      put_won orig slot seat old new s there (ap (λ (l : Links). l.leg_of) stays.keeps.links) stays.keeps.live h;
   answers = λ seat at number {s = s} h. answered_won orig slot seat at number s h;
 }
 
@@ -433,6 +435,7 @@ legs_api by = record {
   draws = λ h. h;
   sleeps = λ until {s = s} may room h. same_roles s (after_job_begin by (Sleep until) s) (begun_roles by (Sleep until) s) h;
   originates = λ groups winner caller timeout {s = s} may are short room h. originates_legs by groups winner caller timeout s h;
+  leavings = λ h. h;
   ends = λ reply notice {s = s} dead h few. no_legs s.channels (length s.origs) s.drawn.origs;
 }
 
@@ -474,15 +477,17 @@ module _ (before : Switch) (stand : LegsStand (roles_of before)) where
       asked = λ change {s = s} h. same_roles s (conn_changed (with_subs_changed change) conn s)
           (conn_roles (with_subs_changed change) conn s) h;
       admitted = λ {s = s} fresh h. same_roles s (conn_changed admitted conn s) (conn_roles admitted conn s) h;
-      parted = λ why {s = s} leaves h. same_roles s (conn_changed (parted why) conn s) (conn_roles (parted why) conn s) h;
+      parted = λ why {s = s} leaves was h. same_roles s (conn_changed (parted why) conn s) (conn_roles (parted why) conn s) h;
       backgrounds = λ given command {s = s} room h. same_roles s (background_begun given command s) (background_roles given command s) h;
     };
     visits = record {
       arrived = λ h. h;
       taken = λ conn h. h;
-      silent = λ conn {s = s} h. same_roles s (conn_changed (parted parting.EndOfInput) conn s)
+      holds = λ slot c text {s = s} there waits room h few.
+          put_legs slot c (held_by (coming_number s) c) (with_new_conn (controller slot c text) s) there refl refl (h few);
+      silent = λ conn {s = s} was h. same_roles s (conn_changed (parted parting.EndOfInput) conn s)
           (conn_roles (parted parting.EndOfInput) conn s) h;
-      left = λ conn h. h;
+      left = λ conn was h. h;
       halted = λ reply notice {s = s} dead h few. no_legs s.channels (length s.origs) s.drawn.origs;
     };
   }

@@ -19,6 +19,7 @@ use Rattle.fs_bridge.specs.Hangups.{IsOneOf}
 use Rattle.fs_bridge.proofs.DragLemmas.{one_parts}
 use Rattle.fs_chan.specs.declared.chan.Chan.{Chan}
 use Rattle.fs_chan.specs.Bridging.{awaited_by, awaiting, bridged, in_media, with_disposition, exported_pairs}
+use Rattle.fs_chan.specs.Controlling.{held_by}
 use Rattle.fs_orig.specs.declared.leg.OrigLeg.{OrigLeg}
 use Rattle.fs_orig.specs.declared.orig.Owner.TheVariants as owner
 use Rattle.fs_orig.specs.declared.plan.LegPlan.{LegPlan}
@@ -45,9 +46,9 @@ use Rattle.fs_machine.specs.Dialing.{tried_by_slot}
 use Rattle.fs_machine.specs.Joining.{both_left}
 use Rattle.fs_machine.specs.Leaving.{after_departure}
 use Rattle.fs_machine.specs.Originations.{MadeGroup, group_made, pair_made, leg_end, far_end, end_made, named_end_made, won_by, after_winning}
-use Rattle.fs_machine.proofs.Kept.{Stage, Fact, TellsNoBridge, Links, Stays, KeptByTouches, WasApart, KeptByCalls}
+use Rattle.fs_machine.proofs.Kept.{Stage, Fact, TellsNoBridge, Links, Keeps, Stays, KeptByTouches, WasApart, KeptByCalls}
 use Rattle.fs_machine.proofs.Kept.{IsShortCall, KeptByBirths, raced, HasWon, HasHung, KeptByDials, KeptByMoves}
-use Rattle.fs_machine.proofs.StayLemmas.{moved_plain, changed_there}
+use Rattle.fs_machine.proofs.StayLemmas.{moved_plain, changed_there, held_keeps}
 use Rattle.fs_machine.proofs.ClosureLemmas.{hangs_up}
 use Rattle.fs_machine.proofs.HangLemmas.{dies, Falls, Cut, Unbridged, Rests, Parks, hangups_kept}
 use Rattle.fs_machine.proofs.JoinLemmas.{both_left_kept, DialsNone, dials_put, rest_dials}
@@ -223,15 +224,15 @@ module _ (before : Switch) where
 
   -- ---- what leaves a channel what it is
 
-  changed_at : (b : Stage) (slot : ℕ) (old new : Chan) (s : Switch) → chan_at s slot ≡ Some old → Stays b old new → Ending before b s →
+  changed_at : (b : Stage) (slot : ℕ) (old new : Chan) (s : Switch) → chan_at s slot ≡ Some old → Keeps b old new → Ending before b s →
       Ending before b (with_chan slot (Some new) s)
-  changed_at None slot old new s there stays h = nothing_put slot old new s there stays.vars.limits h
-  changed_at (Some n) slot old new s there stays h =
+  changed_at None slot old new s there keeps h = nothing_put slot old new s there keeps.vars.limits h
+  changed_at (Some n) slot old new s there keeps h =
       ended_put slot old new n s there
       (record {
-        alone = λ none. ap (λ (l : Links). l.peer) stays.links ∙ none;
-        cause = stays.vars.cause refl;
-        limits = stays.vars.limits;
+        alone = λ none. ap (λ (l : Links). l.peer) keeps.links ∙ none;
+        cause = keeps.vars.cause refl;
+        limits = keeps.vars.limits;
       }) h
 
   globals_at : (b : Stage) (globals : Variables) (s : Switch) → Ending before b s → Ending before b (record s { globals = globals })
@@ -242,7 +243,7 @@ module _ (before : Switch) where
   touches_end = record {
     told = λ event {b = b} {s = s} plain h. told_at b event s (plain_no_end event plain) h;
     globals = λ globals {b = b} {s = s} h. globals_at b globals s h;
-    changed = λ slot old new {b = b} {s = s} there stays h. changed_at b slot old new s there stays h;
+    changed = λ slot old new {b = b} {s = s} there stays h. changed_at b slot old new s there stays.keeps h;
     answers = λ seat slot number {b = b} {s = s} h.
         same_at b s (orig_changed (leg_changed (λ position. with_answer position seat) slot) number s) h
         (orig_changed_front (leg_changed (λ position. with_answer position seat) slot) number s);
@@ -431,9 +432,9 @@ module _ (before : Switch) (bonds : Bonds before) (stand : LegsStand (roles_of b
   core_changed_at (Some n) slot old new s there stays h =
       core_put before Nothing slot old new s there
       (record {
-        alone = λ none. ap (λ (l : Links). l.peer) stays.links ∙ none;
-        cause = stays.vars.cause refl;
-        limits = stays.vars.limits;
+        alone = λ none. ap (λ (l : Links). l.peer) stays.keeps.links ∙ none;
+        cause = stays.keeps.vars.cause refl;
+        limits = stays.keeps.vars.limits;
       }) h
 
   core_same_at : (b : Stage) (t u : Switch) → front_of u ≡ front_of t → CoreAt b t → CoreAt b u
@@ -543,3 +544,5 @@ module _ (before : Switch) (bonds : Bonds before) (stand : LegsStand (roles_of b
       moves_by_front before (Ending before) (same_at before) calls_end (births_end before) dials_end
       (λ job who winner caller orig leg slots does won h. won_ended before winner (unwrap_or leg.slot 0) (raced slots before) h)
       (λ s h. spent_at before s h)
+      (λ slot conn c text s there waits h.
+      changed_at before (Some 0) slot c (held_by conn c) s there (held_keeps conn c text waits) h)

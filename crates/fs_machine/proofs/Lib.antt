@@ -1,4 +1,6 @@
 pub mod AbortLemmas
+pub mod ControlLemmas
+pub mod LeavingLemmas
 pub mod ArgumentLemmas
 pub mod RunLemmas
 pub mod GroupLemmas
@@ -8,6 +10,7 @@ pub mod ListCounts
 pub mod LimitLemmas
 pub mod Kept
 pub mod DialLemmas
+pub mod DialedLemmas
 pub mod ShortLemmas
 pub mod DumpLemmas
 pub mod StayLemmas
@@ -32,7 +35,9 @@ pub mod ConstantMoves
 pub mod KeepLemmas
 pub mod PartLemmas
 pub mod PostLemmas
+pub mod LeftLemmas
 pub mod WaitingLemmas
+pub mod ComingLemmas
 pub mod NameLemmas
 pub mod OrderLemmas
 pub mod FramesLaws
@@ -74,6 +79,7 @@ pub mod OwnerMoves
 pub mod WinnerMoves
 pub mod CauseMoves
 pub mod ChannelMoves
+pub mod ControlMoves
 pub mod BondRows
 pub mod BondLemmas
 pub mod BondTables
@@ -83,6 +89,7 @@ pub mod StandingLemmas
 pub mod StillMoves
 pub mod StoppedMoves
 pub mod OwedLaws
+pub mod OwedLeavings
 pub mod BondChanges
 pub mod BondLeaves
 pub mod BondMoves
@@ -107,5 +114,6 @@ pub mod BerthMoves
 pub mod LetGoLemmas
 pub mod LetGoMoves
 pub mod LetGoLaws
+pub mod BehindLemmas
 pub mod ArrivalLemmas
 pub mod QuietLemmas

@@ -1,42 +1,98 @@
 -- Behind the entries of a run the connections and their outboxes fit together.
 use Rattle.std.proofs.Common.{◌≡◌, ℕ, ◌+◌, ◌*◌, ◌-◌, ◌^◌, ◌<◌, ◌≤◌, min, Bool, true, false, List, [], ◌∷◌, Option, None, refl, sym, ap}
-use Rattle.std.proofs.Common.{subst, ◌∙◌, arith}
+use Rattle.std.proofs.Common.{◌⊎◌, inl, inr, subst, ◌∙◌, arith}
 use Rattle.std.proofs.lemmas.Bool.{both_ways, ltb-false}
 use Rattle.fs_doc.specs.Reading.{Configuration}
 use Rattle.fs_seats.specs.declared.numbered.Numbered.{Numbered}
 use Rattle.fs_seats.specs.Seats.{held_in}
 use Rattle.fs_seats.specs.Rows.{has_number, seat_of}
-use Rattle.fs_seats.proofs.RowLemmas.{nowhere}
+use Rattle.fs_seats.proofs.RowLemmas.{nowhere, seat_of-without_row_same}
 use Rattle.fs_seats.proofs.HeldLemmas.{nothing_held}
 use Rattle.fs_doc.specs.declared.settings.Settings.{Settings}
 use Rattle.fs_state.specs.declared.conn.Conn.{Conn}
 use Rattle.fs_state.specs.Frames.{texts_of}
 use Rattle.fs_state.specs.Posting.{with_posts}
 use Rattle.fs_state.specs.Switch.{Switch, empty, waiting_at, outgoing_for, waiting_for, at_moment, after_entry, is_full}
+use Rattle.fs_state.specs.Switch.{with_frame_taken, without_conn}
 use Rattle.fs_state.proofs.GiftLemmas.{none_waits, as_many}
 use Rattle.fs_machine.specs.declared.entry.Entry.{Entry}
 use Rattle.fs_machine.specs.declared.entry.Act.{Act}
-use Rattle.fs_machine.specs.declared.entry.Act.TheVariants.{Arrive, Take, Close}
+use Rattle.fs_machine.specs.declared.entry.Act.TheVariants.{Arrive, Take, Close, Dialed}
 use Rattle.fs_machine.specs.declared.entry.Closing.TheVariants.{Sent, Failed}
 use Rattle.fs_machine.specs.declared.refusal.Refusal.{Refusal}
 use Rattle.fs_machine.specs.declared.refusal.Refusal.TheVariants as refusal
 use Rattle.fs_machine.specs.Entries.{cost_of}
-use Rattle.fs_machine.specs.Step.{refused_where, refused_act, refusal_of, act_done, step}
+use Rattle.fs_machine.specs.Controlling.{after_dial, after_letting_go, after_leavings}
+use Rattle.fs_machine.specs.Step.{refused_where, refused_act, refusal_of, arrived, acted, act_done, step}
 use Rattle.fs_machine.specs.Runs.{run_from, IsRunFrom}
 use Rattle.fs_machine.proofs.ConstantMoves.{Constants, acted_constants}
-use Rattle.fs_machine.proofs.KeepLemmas.{is_shut, keeps_same, act_keeps}
-use Rattle.fs_machine.proofs.WaitingLemmas.{Ordered, keeps_ordered, keeps_seat, posted_ordered, closed_ordered, taken_ordered}
+use Rattle.fs_machine.proofs.RestLemmas.{Rest}
+use Rattle.fs_machine.proofs.KeepLemmas.{is_shut, keeps_same, leavings_keep, freed_keeps, act_keeps}
+use Rattle.fs_machine.proofs.LeftLemmas.{NoneLeft, none_left, empty_none_left}
+use Rattle.fs_machine.proofs.WaitingLemmas.{Ordered, keeps_ordered, keeps_seat, keeps_waiting, posted_ordered, closed_ordered}
+use Rattle.fs_machine.proofs.WaitingLemmas.{taken_ordered, without_same, without_other}
+use Rattle.fs_machine.proofs.ComingLemmas.{TakesHold, TakesNone, dial_takes, dial_ordered, dial_gone}
 use Rattle.fs_machine.proofs.WaitingLemmas.{without_ordered, arrived_ordered, arrived_gone, without_gone}
 use Rattle.fs_machine.proofs.FrameLemmas.{some_cost}
 
 -- ---- what each act keeps
 
+-- those that part stay where they are
+left_ordered : (s : Switch) → Ordered s → Ordered (after_leavings s)
+left_ordered s ordered = keeps_ordered s (after_leavings s) (leavings_keep {who = None} {may_end = false} s) ordered
+
+pub left_seat : (s : Switch) (conn : ℕ) → seat_of (after_leavings s).conns conn ≡ seat_of s.conns conn
+left_seat s conn = keeps_seat s (after_leavings s) (leavings_keep {who = None} {may_end = false} s) conn
+
+pub left_waits : (s : Switch) (conn : ℕ) → waiting_for (after_leavings s) conn ≡ waiting_for s conn
+left_waits s conn = keeps_waiting s (after_leavings s) (leavings_keep {who = None} {may_end = false} s) conn
+
+-- and so do all while one lets its channel go
+free_ordered : (conn : ℕ) (s : Switch) → Ordered s → Ordered (after_letting_go conn s)
+free_ordered conn s ordered = keeps_ordered s (after_letting_go conn s) (freed_keeps {who = None} {may_end = false} conn s) ordered
+
+free_seat : (gone : ℕ) (s : Switch) (conn : ℕ) → seat_of (after_letting_go gone s).conns conn ≡ seat_of s.conns conn
+free_seat gone s conn = keeps_seat s (after_letting_go gone s) (freed_keeps {who = None} {may_end = false} gone s) conn
+
+free_waits : (gone : ℕ) (s : Switch) (conn : ℕ) → waiting_for (after_letting_go gone s) conn ≡ waiting_for s conn
+free_waits gone s conn = keeps_waiting s (after_letting_go gone s) (freed_keeps {who = None} {may_end = false} gone s) conn
+
+-- one is gone then
+abbrev pub gone_with : ℕ → Switch → Switch
+gone_with gone s = after_leavings (without_conn gone (after_letting_go gone s))
+
+pub gone_ordered : (gone : ℕ) (s : Switch) → Ordered s → Ordered (gone_with gone s)
+gone_ordered gone s ordered =
+    left_ordered (without_conn gone (after_letting_go gone s))
+    (without_ordered gone (after_letting_go gone s) (free_ordered gone s ordered))
+
+pub gone_seat : (gone : ℕ) (s : Switch) → Ordered s → seat_of (gone_with gone s).conns gone ≡ None
+gone_seat gone s ordered =
+    left_seat (without_conn gone (after_letting_go gone s)) gone
+    ∙ seat_of-without_row_same (after_letting_go gone s).conns gone (free_ordered gone s ordered).distinct
+
+pub gone_drawn : (gone : ℕ) (s : Switch) → (gone_with gone s).drawn.conns ≡ s.drawn.conns
+gone_drawn gone s = (freed_keeps {who = None} {may_end = false} gone s).drawn
+
+-- nothing waits for it, and for the others what waited
+pub gone_same : (gone : ℕ) (s : Switch) → Ordered s → waiting_for (gone_with gone s) gone ≡ []
+gone_same gone s ordered =
+    left_waits (without_conn gone (after_letting_go gone s)) gone
+    ∙ without_same gone (after_letting_go gone s) (free_ordered gone s ordered)
+
+pub gone_other : (gone conn : ℕ) (s : Switch) → (gone ≡ conn → ⊥) → waiting_for (gone_with gone s) conn ≡ waiting_for s conn
+gone_other gone conn s differ =
+    left_waits (without_conn gone (after_letting_go gone s)) conn
+    ∙ without_other gone conn (after_letting_go gone s) differ
+    ∙ free_waits gone s conn
+
 -- the connections that there are, and their outboxes
 pub acted_ordered : (act : Act) (s : Switch) → Ordered s → s.drawn.conns < 2 ^ 32 - 1 → Ordered (act_done act s).state
-acted_ordered Arrive s ordered room = arrived_ordered s ordered room
-acted_ordered (Take conn) s ordered room = taken_ordered conn s ordered
-acted_ordered (Close conn Sent) s ordered room = without_ordered conn s ordered
-acted_ordered (Close conn Failed) s ordered room = without_ordered conn s ordered
+acted_ordered Arrive s ordered room = left_ordered (arrived s).state (arrived_ordered s ordered room)
+acted_ordered (Take conn) s ordered room = left_ordered (with_frame_taken conn s) (taken_ordered conn s ordered)
+acted_ordered (Close conn Sent) s ordered room = gone_ordered conn s ordered
+acted_ordered (Close conn Failed) s ordered room = gone_ordered conn s ordered
+acted_ordered (Dialed slot linked) s ordered room = left_ordered (after_dial linked slot s) (dial_ordered linked slot s ordered room)
 acted_ordered act s ordered room = keeps_ordered s (act_done act s).state (act_keeps act s) ordered
 
 -- no act pays or counts by itself, nor changes the settings
@@ -62,18 +118,32 @@ next_more drawn room = (omega (arith, room), omega arith)
 pub acted_drawn : (act : Act) (s : Switch) → s.drawn.conns < 2 ^ 32 - 1 → IsNext s.drawn.conns (act_done act s).state.drawn.conns
 acted_drawn Arrive s room = next_more s.drawn.conns room
 acted_drawn (Take conn) s room = next_same s.drawn.conns s.drawn.conns refl
-acted_drawn (Close conn Sent) s room = next_same s.drawn.conns s.drawn.conns refl
-acted_drawn (Close conn Failed) s room = next_same s.drawn.conns s.drawn.conns refl
+acted_drawn (Close conn Sent) s room = next_same s.drawn.conns (gone_with conn s).drawn.conns (gone_drawn conn s)
+acted_drawn (Close conn Failed) s room = next_same s.drawn.conns (gone_with conn s).drawn.conns (gone_drawn conn s)
+acted_drawn (Dialed slot linked) s room = by (dial_takes linked slot s)
+  where
+    by : TakesHold linked slot s ⊎ TakesNone linked slot s → IsNext s.drawn.conns (after_dial linked slot s).drawn.conns
+    by (inl takes) =
+        subst (λ (t : Switch). IsNext s.drawn.conns t.drawn.conns) (sym takes.after) (next_more s.drawn.conns room)
+    by (inr none) =
+        next_same s.drawn.conns (after_dial linked slot s).drawn.conns (ap (λ (rest : Rest). rest.conns_drawn) none.rest)
 acted_drawn act s room = next_same s.drawn.conns (act_done act s).state.drawn.conns (act_keeps act s).drawn
+
+still_gone : (gone : ℕ) (s : Switch) (conn : ℕ) → Ordered s → seat_of s.conns conn ≡ None → seat_of (gone_with gone s).conns conn ≡ None
+still_gone gone s conn ordered none =
+    left_seat (without_conn gone (after_letting_go gone s)) conn
+    ∙ without_gone gone (after_letting_go gone s) conn (free_ordered gone s ordered) (free_seat gone s conn ∙ none)
 
 -- a connection that had its number and is gone stays so
 pub acted_gone : (act : Act) (s : Switch) (conn : ℕ) → Ordered s → s.drawn.conns < 2 ^ 32 - 1 → seat_of s.conns conn ≡ None →
     conn ≤ s.drawn.conns →
     seat_of (act_done act s).state.conns conn ≡ None
-acted_gone Arrive s conn ordered room none below = arrived_gone s conn room none below
-acted_gone (Take taker) s conn ordered room none below = none
-acted_gone (Close gone Sent) s conn ordered room none below = without_gone gone s conn ordered none
-acted_gone (Close gone Failed) s conn ordered room none below = without_gone gone s conn ordered none
+acted_gone Arrive s conn ordered room none below = left_seat (arrived s).state conn ∙ arrived_gone s conn room none below
+acted_gone (Take taker) s conn ordered room none below = left_seat (with_frame_taken taker s) conn ∙ none
+acted_gone (Close gone Sent) s conn ordered room none below = still_gone gone s conn ordered none
+acted_gone (Close gone Failed) s conn ordered room none below = still_gone gone s conn ordered none
+acted_gone (Dialed slot linked) s conn ordered room none below =
+    left_seat (after_dial linked slot s) conn ∙ dial_gone linked slot s conn room none below
 acted_gone act s conn ordered room none below = keeps_seat s (act_done act s).state (act_keeps act s) conn ∙ none
 
 -- ---- refusals
@@ -102,6 +172,7 @@ not_refused s entry none =
 -- a switch between the entries of a run, whose journal is short enough for each connection to have a number of its own
 pub record Orderly (s : Switch) : Type 0 where
   pub ordered : Ordered s
+  pub settled : NoneLeft s
   pub replies : s.replies ≡ []
   pub posted : s.posted ≡ []
   pub late : s.late ≡ []
@@ -123,6 +194,7 @@ advanced_ordered now s ordered =
 pub advanced_orderly : (now : ℕ) (s : Switch) → Orderly s → Orderly (at_moment now s)
 advanced_orderly now s orderly = record {
   ordered = advanced_ordered now s orderly.ordered;
+  settled = orderly.settled;
   replies = orderly.replies;
   posted = orderly.posted;
   late = orderly.late;
@@ -143,6 +215,7 @@ act_orderly : (before : Switch) (act : Act) (s : Switch) → Orderly s → is_fu
 act_orderly before act s orderly below = record {
   ordered = closed_ordered (cost_of act) (with_posts before (act_done act s).state)
       (posted_ordered before (act_done act s).state (acted_ordered act s orderly.ordered (room_left s orderly below)));
+  settled = none_left (acted act s).state;
   replies = refl;
   posted = refl;
   late = refl;
@@ -195,6 +268,7 @@ empty_ordered config = record {
 pub empty_orderly : (config : Configuration) → config.settings.journal_limit ≤ 1073741824 → Orderly (empty config)
 empty_orderly config limit = record {
   ordered = empty_ordered config;
+  settled = empty_none_left config;
   replies = refl;
   posted = refl;
   late = refl;

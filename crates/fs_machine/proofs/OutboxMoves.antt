@@ -32,9 +32,10 @@ use Rattle.fs_state.specs.Ending.{last_reply, last_notice, last_replies, last_no
 use Rattle.fs_state.proofs.GiftLemmas.{events_append, events_drop}
 use Rattle.fs_machine.specs.declared.entry.Entry.{Entry}
 use Rattle.fs_machine.specs.declared.entry.Act.{Act}
-use Rattle.fs_machine.specs.declared.entry.Act.TheVariants.{Arrive, Take, Close}
+use Rattle.fs_machine.specs.declared.entry.Act.TheVariants.{Arrive, Take, Close, Dialed}
 use Rattle.fs_machine.specs.declared.entry.Closing.TheVariants.{Sent, Failed}
 use Rattle.fs_machine.specs.Texts.{made_text, failed_text}
+use Rattle.fs_machine.specs.Controlling.{is_left, farewell, farewell_behind, after_dial, after_letting_go, after_leavings}
 use Rattle.fs_machine.specs.Connections.{phase_at, conn_changed_from, conn_changed, admitted, parted, owed_since, not_owed}
 use Rattle.fs_machine.specs.Connections.{with_subs_changed}
 use Rattle.fs_machine.specs.Entries.{cost_of}
@@ -45,14 +46,15 @@ use Rattle.fs_machine.specs.declared.owing.Giver.TheVariants as giver
 use Rattle.fs_machine.specs.Owing.{job_number, after_job_begin, background_begun, after_job_end}
 use Rattle.fs_machine.specs.Runs.{run_from, IsRunFrom}
 use Rattle.fs_machine.specs.Sound.{EventsAreFew}
-use Rattle.fs_machine.specs.Step.{is_closed, refusal_of, act_done, step}
+use Rattle.fs_machine.specs.Step.{is_closed, refusal_of, arrived, act_done, step}
 use Rattle.fs_machine.proofs.Kept.{Fact, raced, KeptByApi, KeptByMoves}
 use Rattle.fs_machine.proofs.ActWalk.{acted_kept}
 use Rattle.fs_machine.proofs.RestLemmas.{Rest, rest_of, calls_by_rest, dials_by_rest, group_made_rest, won_rest}
 use Rattle.fs_machine.proofs.KeepLemmas.{act_keeps}
 use Rattle.fs_machine.proofs.PostLemmas.{frames_for, frames_append, few_posts}
 use Rattle.fs_machine.proofs.WaitingLemmas.{Ordered, keeps_outgoing, outgoing_given, posted_ordered, closed_outgoing, taken_outgoing}
-use Rattle.fs_machine.proofs.WaitingLemmas.{taken_apart, without_outgoing, without_apart, arrived_outgoing}
+use Rattle.fs_machine.proofs.WaitingLemmas.{taken_apart, without_outgoing, without_apart, arrived_outgoing, dialed_outgoing}
+use Rattle.fs_machine.proofs.WaitingLemmas.{freed_ordered, freed_outgoing, left_outgoing}
 use Rattle.fs_machine.proofs.OrderLemmas.{Orderly, acted_ordered, not_full, room_left, advanced_orderly, entry_orderly, empty_outgoing}
 use Rattle.fs_machine.proofs.OrderLemmas.{empty_orderly}
 
@@ -107,6 +109,15 @@ are_last_notices notice (Some row) = by row.held.phase
     by phase.Ending = λ conn. refl
     by phase.Closed = λ conn. refl
 
+-- what one is given whose channel has left
+are_farewells : (s : Switch) (held : Option (Numbered Conn)) → AreReplies (farewell_behind s held)
+are_farewells s None = λ conn. refl
+are_farewells s (Some row) = by (is_left s row)
+  where
+    by : (left : Bool) → AreReplies (if left then gift_of row.number (farewell row.held.control) ∷ [] else [])
+    by true = λ conn. one_reply row.number conn (farewell row.held.control)
+    by false = λ conn. refl
+
 -- what is given that is no event
 abbrev Replies : Switch → Type 0
 Replies s = AreReplies s.replies × AreReplies s.late × AreReplies s.notices
@@ -157,6 +168,13 @@ stopped_replies reply notice s h = (
       (replies_each (last_notices notice) (are_last_notices notice) s.conns),
 )
 
+left_replies : (s : Switch) → Replies s → Replies (after_leavings s)
+left_replies s h = (
+  h.0,
+  h.1,
+  replies_more s.notices (flat_map (farewell_behind s) s.conns) h.2 (replies_each (farewell_behind s) (are_farewells s) s.conns),
+)
+
 -- every move gives replies alone
 abbrev Replying : Fact
 Replying b s = Replies s
@@ -167,6 +185,7 @@ replying_api by = record {
   draws = λ h. h;
   sleeps = λ until {s = s} may room h. owing_replies by (Sleep until) s h;
   originates = λ groups winner caller timeout {s = s} may are short room h. originates_replies by groups winner caller timeout s h;
+  leavings = λ {s = s} h. left_replies s h;
   ends = λ reply notice {s = s} dead h. stopped_replies reply notice s h;
 }
 
@@ -191,14 +210,15 @@ replying_moves before = record {
     gave = λ frame {s = s} h. (reply_more conn frame s.replies h.0, h.1, h.2);
     asked = λ change {s = s} h. changed_replies (with_subs_changed change) conn s h;
     admitted = λ {s = s} fresh h. changed_replies admitted conn s h;
-    parted = λ why {s = s} leaves h. changed_replies (parted why) conn s h;
+    parted = λ why {s = s} leaves was h. changed_replies (parted why) conn s h;
     backgrounds = λ given command {s = s} room h. background_replies given command s h;
   };
   visits = record {
     arrived = λ {s = s} h. (reply_more (numbers.with_conn s.drawn).conns auth_request s.replies h.0, h.1, h.2);
     taken = λ conn h. h;
-    silent = λ conn {s = s} h. changed_replies (parted parting.EndOfInput) conn s h;
-    left = λ conn h. h;
+    holds = λ slot c text there waits room h. h;
+    silent = λ conn {s = s} was h. changed_replies (parted parting.EndOfInput) conn s h;
+    left = λ conn was h. h;
     halted = λ reply notice {s = s} dead h. stopped_replies reply notice s h;
   };
 }
@@ -241,14 +261,34 @@ without_events gone conn s ordered = by (cases_eq gone conn)
         subst (λ number. events_in (outgoing_for (without_conn gone s) number) ≤ events_in (outgoing_for s number)) same own
     by (inr differ) = same_events (outgoing_for (without_conn gone s) conn) (outgoing_for s conn) (without_apart gone conn s differ)
 
+-- nor do more wait where the same frames do behind it
+behind_events : (s t : Switch) (conn : ℕ) → events_in (outgoing_for t conn) ≤ events_in (outgoing_for s conn) →
+    events_in (outgoing_for (after_leavings t) conn) ≤ events_in (outgoing_for s conn)
+behind_events s t conn less =
+    subst (λ (frames : Frames). events_in frames ≤ events_in (outgoing_for s conn)) (sym (left_outgoing t conn)) less
+
+-- one that is gone has let its channel go
+gone_events : (gone conn : ℕ) (s : Switch) → Ordered s →
+    events_in (outgoing_for (without_conn gone (after_letting_go gone s)) conn) ≤ events_in (outgoing_for s conn)
+gone_events gone conn s ordered =
+    subst
+    (λ (frames : Frames). events_in (outgoing_for (without_conn gone (after_letting_go gone s)) conn) ≤ events_in frames)
+    (freed_outgoing gone s conn) (without_events gone conn (after_letting_go gone s) (freed_ordered gone s ordered))
+
 -- an act puts nothing into the outboxes by itself
 acted_events : (act : Act) (s : Switch) (conn : ℕ) → Ordered s → s.drawn.conns < 2 ^ 32 - 1 →
     events_in (outgoing_for (act_done act s).state conn) ≤ events_in (outgoing_for s conn)
 acted_events Arrive s conn ordered room =
-    same_events (outgoing_for (act_done Arrive s).state conn) (outgoing_for s conn) (arrived_outgoing s conn ordered room)
-acted_events (Take taker) s conn ordered room = taken_events taker conn s ordered
-acted_events (Close gone Sent) s conn ordered room = without_events gone conn s ordered
-acted_events (Close gone Failed) s conn ordered room = without_events gone conn s ordered
+    same_events (outgoing_for (act_done Arrive s).state conn) (outgoing_for s conn)
+    (left_outgoing (arrived s).state conn ∙ arrived_outgoing s conn ordered room)
+acted_events (Dialed slot linked) s conn ordered room =
+    same_events (outgoing_for (act_done (Dialed slot linked) s).state conn) (outgoing_for s conn)
+    (left_outgoing (after_dial linked slot s) conn ∙ dialed_outgoing linked slot s conn ordered room)
+acted_events (Take taker) s conn ordered room = behind_events s (with_frame_taken taker s) conn (taken_events taker conn s ordered)
+acted_events (Close gone Sent) s conn ordered room =
+    behind_events s (without_conn gone (after_letting_go gone s)) conn (gone_events gone conn s ordered)
+acted_events (Close gone Failed) s conn ordered room =
+    behind_events s (without_conn gone (after_letting_go gone s)) conn (gone_events gone conn s ordered)
 acted_events act s conn ordered room =
     same_events (outgoing_for (act_done act s).state conn) (outgoing_for s conn)
     (keeps_outgoing s (act_done act s).state (act_keeps act s) conn)

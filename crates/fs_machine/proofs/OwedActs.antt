@@ -1,6 +1,6 @@
 -- What entries do keeps the facts on connections, on jobs and on originations.
-use Rattle.std.proofs.Common.{◌≡◌, ℕ, true, false, not, List, Option, None, Some, is_none, unwrap_or, refl, sym, ap, subst, ◌∙◌, ◌≤◌, ◌<◌}
-use Rattle.std.proofs.Common.{◌^◌, ◌+◌, map, arith}
+use Rattle.std.proofs.Common.{◌≡◌, ℕ, Bool, true, false, not, List, Option, None, Some, is_none, unwrap_or, refl, sym, ap, subst, ◌∙◌, ◌≤◌}
+use Rattle.std.proofs.Common.{◌<◌, ◌^◌, ◌+◌, map, arith}
 use Rattle.std.specs.Option.{option_and_then}
 use Rattle.std.proofs.lemmas.Bool.{false≢true, not-false}
 use Rattle.fs_text.specs.Texts.{Text}
@@ -43,7 +43,8 @@ use Rattle.fs_machine.specs.Attempts.{originate_begun, with_group, first_group, 
 use Rattle.fs_machine.specs.declared.owing.Giver.{Giver}
 use Rattle.fs_machine.specs.declared.owing.Giver.TheVariants as giver
 use Rattle.fs_machine.specs.Owing.{after_job_begin, background_begun, after_job_end}
-use Rattle.fs_machine.specs.Step.{reads, busy, refused_act, after_close, act_done}
+use Rattle.fs_machine.specs.Controlling.{controller, after_dial, after_letting_go, after_leavings}
+use Rattle.fs_machine.specs.Step.{reads, busy, refused_act, after_close, acted, act_done}
 use Rattle.fs_machine.specs.Owed.{PartsIn}
 use Rattle.fs_machine.proofs.Kept.{Stage, Fact, KeptByCalls, DoesJob, raced, KeptByJobs, KeptByCommands, KeptByTouches, KeptByDials}
 use Rattle.fs_machine.proofs.Kept.{apart_by, MayGoOn, goes_on_by, KeptByApi, KeptByMoves}
@@ -52,9 +53,11 @@ use Rattle.fs_machine.proofs.RestLemmas.{does_same, won_rest}
 use Rattle.fs_machine.proofs.OrderLemmas.{none_refused}
 use Rattle.fs_machine.proofs.ActWalk.{job_kept, commanded_kept}
 use Rattle.fs_machine.proofs.OwedBooks.{Books, books_of, Sound, Goes, Few, SlotsAreFew, books_lose}
+use Rattle.fs_machine.proofs.DialedLemmas.{dialed_by}
 use Rattle.fs_machine.proofs.OwedEnds.{goes_ended}
+use Rattle.fs_machine.proofs.OwedLeavings.{goes_left}
 use Rattle.fs_machine.proofs.OwedJobs.{near_self, parts_of, goes_conn, goes_gone, goes_arrived, goes_sleep, goes_originate, goes_woken}
-use Rattle.fs_machine.proofs.OwedJobs.{goes_over, goes_drawn, MayBegin, goes_background, goes_out, out_may}
+use Rattle.fs_machine.proofs.OwedJobs.{goes_come, goes_over, goes_drawn, MayBegin, goes_background, goes_out, out_may}
 use Rattle.fs_text.specs.declared.causes.Cause.{Cause}
 use Rattle.fs_chan.specs.declared.chan.Chan.{Chan}
 use Rattle.fs_chan.specs.Bridging.{exported_pairs, awaiting}
@@ -63,12 +66,12 @@ use Rattle.fs_orig.specs.declared.orig.Owner.TheVariants as owner
 use Rattle.fs_orig.specs.Changes.{new_orig}
 use Rattle.fs_orig.specs.Plans.{all_behind}
 use Rattle.fs_seats.proofs.NumberLemmas.{Numbers}
-use Rattle.fs_state.specs.Moves.{after_move}
+use Rattle.fs_state.specs.Moves.{after_move, after_completion}
 use Rattle.fs_machine.specs.Bridging.{caller_of, group_dialed, after_bridge_failure, after_bridge_win}
 use Rattle.fs_machine.specs.Dialing.{tried_by_slot}
 use Rattle.fs_machine.proofs.OwedTables.{by_job, by_slot, owned_in, untold_added}
 use Rattle.fs_machine.proofs.OwedLosses.{Loses, moved_loses, winning_loses, calls_by_losses, failure_loses, bridge_won_loses, group_loses}
-use Rattle.fs_machine.proofs.OwedLosses.{regrouped_loses, OwnsAwaited, awaited_loses, winning_numbers, hung_loses}
+use Rattle.fs_machine.proofs.OwedLosses.{freed_loses, completed_loses, regrouped_loses, OwnsAwaited, awaited_loses, winning_numbers, hung_loses}
 
 -- ---- refusals
 
@@ -184,6 +187,7 @@ module _ (b : Books) (by : Giver) (few : Few b) (has : LetsBegin b by) where
     sleeps = λ until {s = s} may room h. sleeps_go until s may room h;
     originates = λ groups winner caller timeout {s = s} may are short room h.
         originates_go groups winner caller timeout s may room h;
+    leavings = λ {s = s} h. goes_left b s h;
     ends = λ reply notice {s = s} dead h. goes_ended b reply notice s h;
   }
 
@@ -226,7 +230,7 @@ module _ (b : Books) (conn : ℕ) (c : Conn) (there : row_of b.conns conn ≡ So
     gave = λ frame {b = stage} {s = s} h. gave_goes frame stage s h;
     asked = λ change {s = s} h. asked_goes change s h;
     admitted = λ {s = s} new h. admitted_goes s new h;
-    parted = λ why {s = s} leaves h. parted_goes why s h;
+    parted = λ why {s = s} leaves was h. parted_goes why s h;
     backgrounds = λ given command {s = s} room h. backgrounds_go given command s room h;
   }
 
@@ -302,6 +306,7 @@ module _ (before : Switch) (Q : Fact) (kept : KeptByMoves before Q) (owns : (b :
           originates_go b by few has groups winner caller timeout s (goes_on_by (Beside b Q) (GoesFrom b) by s may (λ t k. k.0)) room h.0,
           runs.originates groups winner caller timeout (goes_on_by (Beside b Q) Q by s may (λ t k. k.1)) are short room h.1,
         );
+        leavings = λ {s = s} h. (goes_left b s h.0, runs.leavings h.1);
         ends = λ reply notice {s = s} dead h. (goes_ended b reply notice s h.0, runs.ends reply notice dead h.1);
       }
 
@@ -379,44 +384,66 @@ module _ (before : Switch) (Q : Fact) (kept : KeptByMoves before Q) (owns : (b :
 
 -- ---- acts
 
+-- a connection has let its channel go
+freed_goes : (conn : ℕ) (s : Switch) → Goes (books_of s) (books_of s) → Goes (books_of s) (books_of (after_letting_go conn s))
+freed_goes conn s h = goes_loses (books_of s) (Some 0) s (after_letting_go conn s) h (freed_loses conn s)
+
 closed_goes : (how : Closing) (conn : ℕ) (s : Switch) → Goes (books_of s) (books_of s) →
     Goes (books_of s) (books_of (after_close how conn s))
 closed_goes closing.EndOfInput conn s h =
-    goes_conn (books_of s) (parted parting.EndOfInput) conn s (λ c is. something_there parting.EndOfInput) (λ c. refl) h
-closed_goes closing.Sent conn s h = goes_gone (books_of s) conn s h
-closed_goes closing.Failed conn s h = goes_gone (books_of s) conn s h
+    goes_conn (books_of s) (parted parting.EndOfInput) conn (after_letting_go conn s)
+    (λ c is. something_there parting.EndOfInput) (λ c. refl) (freed_goes conn s h)
+closed_goes closing.Sent conn s h = goes_gone (books_of s) conn (after_letting_go conn s) (freed_goes conn s h)
+closed_goes closing.Failed conn s h = goes_gone (books_of s) conn (after_letting_go conn s) (freed_goes conn s h)
+
+-- a controller was dialed
+dial_goes : (linked : Bool) (slot : ℕ) (s : Switch) → Few (books_of s) → Sound (books_of s) → Goes (books_of s) (books_of s) →
+    Goes (books_of s) (books_of (after_dial linked slot s))
+dial_goes linked slot s few sound h =
+    dialed_by (λ (t : Switch). Goes (books_of s) (books_of t)) linked slot s h
+    (λ c text. goes_come (controller slot c text) s refl refl few sound)
+    (goes_loses (books_of s) (Some 0) s (after_completion slot s) h (completed_loses slot s))
 
 -- all are hung up, and nothing is left
 halted_goes : (b : Books) (s : Switch) → Goes b (books_of s) → Goes b (books_of (after_shutdown s))
 unfolding after_shutdown
 halted_goes b s h =
     let named : Members = map (λ slot. (slot, SystemShutdown)) (all_slots s) in
-    goes_ended b stopped_reply notice (with_event shutdown_event (after_hangup_of_all SystemShutdown s))
-    (goes_loses b (Some 0) s (after_hangups named s) h (hung_loses named s))
+    goes_ended b stopped_reply notice (with_event shutdown_event (after_leavings (after_hangup_of_all SystemShutdown s)))
+    (goes_left b (after_hangups named s) (goes_loses b (Some 0) s (after_hangups named s) h (hung_loses named s)))
 
 -- the books of a switch are what they were
 at_first : (s : Switch) → Sound (books_of s) → SlotsAreFew s → GoesFrom (books_of s) None s
 at_first s h slots = (h, refl, slots)
 
--- each act, beside such a fact
-pub goes_acted : (what : Act) (s : Switch) (Q : Fact) → KeptByMoves s Q → ((b : Stage) (t : Switch) → Q b t → OwnsAwaited t) →
+-- each act by itself, beside such a fact
+goes_alone : (what : Act) (s : Switch) (Q : Fact) → KeptByMoves s Q → ((b : Stage) (t : Switch) → Q b t → OwnsAwaited t) →
     ((b : Stage) (t : Switch) → Q b t → Numbers t.origs t.drawn.origs) → refused_act what s ≡ None → Few (books_of s) →
-    Sound (books_of s) → SlotsAreFew s → Q None s → Goes (books_of s) (books_of (act_done what s).state)
-goes_acted act.Arrive s Q kept owns numbers accepts few h slots q = goes_arrived s few h
-goes_acted (act.Command conn block) s Q kept owns numbers accepts few h slots q =
+    Sound (books_of s) → SlotsAreFew s → Q None s → Goes (books_of s) (books_of (acted what s).state)
+goes_alone act.Arrive s Q kept owns numbers accepts few h slots q = goes_arrived s few h
+goes_alone (act.Command conn block) s Q kept owns numbers accepts few h slots q =
     let passed = none_refused (not (reads (phase_at s conn))) refusal.Gone (busy (owed_to s conn)) accepts in
     let given = may_owe s conn (not-false (reads (phase_at s conn)) passed.0) (not_busy (owed_to s conn) passed.1) in
     commanded_kept conn (GoesFrom (books_of s)) (calls_go (books_of s))
     (commands_go (books_of s) conn given.0 given.1.there given.1.none few) (command_of block) {s = s} (at_first s h slots)
-goes_acted (act.Take conn) s Q kept owns numbers accepts few h slots q = goes_spent (books_of s) s (at_first s h slots)
-goes_acted (act.Close conn how) s Q kept owns numbers accepts few h slots q =
+goes_alone (act.Take conn) s Q kept owns numbers accepts few h slots q = goes_spent (books_of s) s (at_first s h slots)
+goes_alone (act.Close conn how) s Q kept owns numbers accepts few h slots q =
     closed_goes how conn s (goes_spent (books_of s) s (at_first s h slots))
-goes_acted (act.Work slot) s Q kept owns numbers accepts few h slots q =
+goes_alone (act.Dialed slot linked) s Q kept owns numbers accepts few h slots q =
+    dial_goes linked slot s few h (goes_spent (books_of s) s (at_first s h slots))
+goes_alone (act.Work slot) s Q kept owns numbers accepts few h slots q =
     (worked_kept s (Beside (books_of s) Q) (both_called s Q kept owns numbers (books_of s) few)
     (dials_go s Q kept owns numbers (books_of s) few) slot (at_first s h slots, q)).0
-goes_acted act.Halt s Q kept owns numbers accepts few h slots q =
+goes_alone act.Halt s Q kept owns numbers accepts few h slots q =
     halted_goes (books_of s) s (goes_spent (books_of s) s (at_first s h slots))
-goes_acted (act.Job number) s Q kept owns numbers accepts few h slots q =
+goes_alone (act.Job number) s Q kept owns numbers accepts few h slots q =
     (job_kept s (Beside (books_of s) Q) (both_called s Q kept owns numbers (books_of s) few)
     (dials_go s Q kept owns numbers (books_of s) few) (jobs_go s Q kept owns numbers (books_of s) few) number
     (at_first s h slots, q) (goes_spent (books_of s) s (at_first s h slots), kept.dials.spent q)).0
+
+-- and with what comes behind it
+pub goes_acted : (what : Act) (s : Switch) (Q : Fact) → KeptByMoves s Q → ((b : Stage) (t : Switch) → Q b t → OwnsAwaited t) →
+    ((b : Stage) (t : Switch) → Q b t → Numbers t.origs t.drawn.origs) → refused_act what s ≡ None → Few (books_of s) →
+    Sound (books_of s) → SlotsAreFew s → Q None s → Goes (books_of s) (books_of (act_done what s).state)
+goes_acted what s Q kept owns numbers accepts few h slots q =
+    goes_left (books_of s) (acted what s).state (goes_alone what s Q kept owns numbers accepts few h slots q)

@@ -24,7 +24,7 @@ use Rattle.fs_state.specs.declared.job.Job.{Job}
 use Rattle.fs_state.specs.declared.job.JobWork.{JobWork}
 use Rattle.fs_state.specs.declared.job.JobWork.TheVariants.{Run, Sleep, Originate}
 use Rattle.fs_state.specs.Switch.{Switch, next_orig_number, next_job_number, conn_of, with_conn, with_new_job, with_new_orig, without_job}
-use Rattle.fs_state.specs.Switch.{without_conn, without_orig}
+use Rattle.fs_state.specs.Switch.{with_new_conn, without_conn, without_orig}
 use Rattle.fs_machine.specs.Connections.{conn_changed_from, conn_changed, owed_since, not_owed}
 use Rattle.fs_machine.specs.Originations.{seconds, MadeGroup, group_made}
 use Rattle.fs_machine.specs.Attempts.{first_group, tried_by_job, originate_begun}
@@ -113,10 +113,11 @@ goes_gone b conn s h = by (seat_of s.conns conn)
         (linked_gone s.conns s.jobs s.drawn.conns s.drawn.jobs seat h.sound.linked) h.sound.tries h
         refl refl refl refl refl
 
--- one comes
-pub goes_arrived : (s : Switch) → Few (books_of s) → Sound (books_of s) → Goes (books_of s) (books_of (arrived s).state)
-goes_arrived s few h =
-    subst (λ (n : ℕ). Goes (books_of s) (record (books_of s) { conns = with_new_row s.conns n new_conn; conns_drawn = n })) (sym next)
+-- one comes that is owed nothing
+pub goes_come : (new : Conn) (s : Switch) → new.owed ≡ None → Parts new → Few (books_of s) → Sound (books_of s) →
+    Goes (books_of s) (books_of (with_new_conn new s))
+goes_come new s none parts few h =
+    subst (λ (n : ℕ). Goes (books_of s) (record (books_of s) { conns = with_new_row s.conns n new; conns_drawn = n })) (sym next)
     (by (least_free s.conns 0))
   where
     next : min (s.drawn.conns + 1) (2 ^ 32 - 1) ≡ s.drawn.conns + 1
@@ -125,7 +126,7 @@ goes_arrived s few h =
     by : (found : Option ℕ) →
         Goes (books_of s)
         (record (books_of s) {
-          conns = with_held_at {T = Numbered Conn} s.conns (Some (record { number = s.drawn.conns + 1; held = new_conn })) found;
+          conns = with_held_at {T = Numbered Conn} s.conns (Some (record { number = s.drawn.conns + 1; held = new })) found;
           conns_drawn = s.drawn.conns + 1;
         })
     by None = record {
@@ -135,11 +136,14 @@ goes_arrived s few h =
     by (Some seat) = record {
       sound = record {
         linked = linked_come s.conns s.jobs s.drawn.conns s.drawn.jobs seat
-            (record { number = s.drawn.conns + 1; held = new_conn }) refl refl refl h.linked;
+            (record { number = s.drawn.conns + 1; held = new }) refl none parts h.linked;
         tries = h.tries;
       };
       near = record { conns = omega arith; jobs = omega arith; origs = omega arith; cost = refl; limit = refl };
     }
+
+pub goes_arrived : (s : Switch) → Few (books_of s) → Sound (books_of s) → Goes (books_of s) (books_of (arrived s).state)
+goes_arrived s few h = goes_come new_conn s refl refl few h
 
 -- ---- a job begins
 

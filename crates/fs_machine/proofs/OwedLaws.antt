@@ -1,5 +1,5 @@
 -- Behind every run each reply that is owed has one job that owes it, and somebody has something to do.
-use Rattle.std.proofs.Common.{List, ◌≡◌, ◌≢◌, ℕ, true, Option, None, Some, is_some, refl, sym, ap, ◌∙◌, if◌then◌else◌}
+use Rattle.std.proofs.Common.{List, ◌≡◌, ◌≢◌, ℕ, Bool, true, false, Option, None, Some, is_some, refl, sym, ap, ◌∙◌, if◌then◌else◌}
 use Rattle.std.specs.Option.{option_and_then}
 use Rattle.std.proofs.lemmas.Option.{none-some}
 use Rattle.fs_chan.specs.declared.due.Due.{Due}
@@ -16,12 +16,12 @@ use Rattle.fs_state.specs.declared.job.Asker.TheVariants as asker
 use Rattle.fs_state.specs.declared.job.Job.{Job}
 use Rattle.fs_state.specs.declared.job.JobWork.{JobWork}
 use Rattle.fs_state.specs.declared.job.JobWork.TheVariants.{Run, Sleep, Originate}
-use Rattle.fs_state.specs.Switch.{Switch, empty, orig_of, job_of, conn_of, at_moment}
+use Rattle.fs_state.specs.Switch.{Switch, empty, chan_at, orig_of, job_of, conn_of, at_moment}
 use Rattle.fs_machine.specs.declared.due.DueActor.TheVariants as actor
 use Rattle.fs_machine.specs.declared.entry.Entry.{Entry}
 use Rattle.fs_machine.specs.Questions.{owed_of, owed_to, owes}
 use Rattle.fs_machine.specs.Due.{orig_due, work_due, job_due, is_now, later_of, row_moment, due_number, due_slot, due_job}
-use Rattle.fs_machine.specs.Due.{first_chan_moment, first_job_moment, actor_or, later_or_never, due_among_all, next_due}
+use Rattle.fs_machine.specs.Due.{dials, turn_of, first_chan_moment, first_job_moment, actor_or, later_or_never, due_among_all, next_due}
 use Rattle.fs_machine.specs.Owed.{HasOneJob, AreOwed}
 use Rattle.fs_machine.proofs.OwedBooks.{books_of, tried_by, HasJob, HasNumber, Sound}
 use Rattle.fs_machine.proofs.OwedJobs.{parts_of}
@@ -102,13 +102,18 @@ due_some None number now later = refl
 due_some (Some Now) number now later = absurd (something_there number now)
 due_some (Some (At moment)) number now later = absurd (something_there moment later)
 
+-- the turn of a slot is somebody's
+turn_is_some : (waits : Bool) (slot : ℕ) → (if waits then actor.Dial slot else actor.Slot slot) ≡ actor.Never → ⊥
+turn_is_some true slot is = absurd (cc is)
+turn_is_some false slot is = absurd (cc is)
+
 -- nobody has something to do only where no job has
 never_among : (s : Switch) (slot job moment : Option ℕ) →
-    actor_or actor.Slot slot (actor_or actor.Job job (later_or_never moment)) ≡ actor.Never → (job ≡ None) × (moment ≡ None)
+    actor_or (turn_of s) slot (actor_or actor.Job job (later_or_never moment)) ≡ actor.Never → (job ≡ None) × (moment ≡ None)
 never_among s None None None is = (refl, refl)
 never_among s None None (Some moment) is = absurd (cc is)
 never_among s None (Some job) moment is = absurd (cc is)
-never_among s (Some slot) job moment is = absurd (cc is)
+never_among s (Some slot) job moment is = absurd (turn_is_some (dials (chan_at s slot)) slot is)
 
 never_due : (s : Switch) (q : ℕ) (row : Numbered Job) → held_in s.jobs q ≡ Some row → due_among_all s ≡ actor.Never →
     work_due s row.held.work ≡ None

@@ -28,13 +28,14 @@ use Rattle.fs_state.specs.declared.event.Event.{Event}
 use Rattle.fs_state.specs.Switch.{Switch, chan_at, with_chan, with_bridge, without_bridge, orig_of, without_orig, with_event}
 use Rattle.fs_text.specs.declared.event_names.EventName.TheVariants.{ChannelExecuteComplete}
 use Rattle.fs_state.specs.Moves.{application_event, running_at, with_state_events, after_move, orig_changed_from, orig_changed}
-use Rattle.fs_state.specs.Moves.{leg_changed_at, leg_changed}
+use Rattle.fs_state.specs.Moves.{leg_changed_at, leg_changed, after_completion}
 use Rattle.fs_state.specs.Moves.{is_owner, its_leg_changed, hangup_event, given_up_by, orig_given_up, after_hangup_from, after_one_hangup}
 use Rattle.fs_state.specs.Hangups.{after_hangups}
 use Rattle.fs_state.specs.Bridging.{peer_of, with_peer_from, with_peer, joined_as}
 use Rattle.fs_machine.specs.declared.call.Call.{Call}
 use Rattle.fs_machine.specs.Attempts.{awaits, with_group}
 use Rattle.fs_machine.specs.Bridging.{goes_on, after_going_on, bridge_failed_from, after_bridge_failure, disposed, after_bridge_win}
+use Rattle.fs_machine.specs.Controlling.{after_letting_go}
 use Rattle.fs_machine.specs.Joining.{after_leaving, both_left}
 use Rattle.fs_machine.specs.Leaving.{after_departure}
 use Rattle.fs_machine.proofs.JoinLemmas.{both_left_kept}
@@ -46,7 +47,7 @@ use Rattle.fs_machine.proofs.StayLemmas.{state_told_kept, moved_there, changed_t
 use Rattle.fs_machine.proofs.HangLemmas.{dies, hangups_kept_by}
 use Rattle.fs_machine.proofs.WonLemmas.{bridge_won_kept}
 use Rattle.fs_machine.proofs.RestLemmas.{rest_of}
-use Rattle.fs_machine.proofs.Walk.{disposed_kept, group_made_kept}
+use Rattle.fs_machine.proofs.Walk.{let_go_kept, disposed_kept, group_made_kept}
 use Rattle.fs_machine.proofs.OwedTables.{of_slot, left_stood, by_job, by_slot, IsOwnedAt, owned_in, owned_there, owned_changed}
 use Rattle.fs_machine.proofs.OwedTables.{owned_removed, untold_removed, none_removed}
 
@@ -285,6 +286,15 @@ pub winning_numbers : (winner : Winner) (slot : ℕ) (s : Switch) → Numbers s.
 unfolding after_winning
 winning_numbers winner slot s h =
     moved_there (λ (t : Switch). Numbers t.origs t.drawn.origs) (λ event t k. k) (won_by winner) slot s (λ c is. h) h
+
+-- a connection lets its channel go
+pub freed_loses : (conn : ℕ) (s : Switch) → Loses s (after_letting_go conn s)
+freed_loses conn s = let_go_kept (λ b t. Loses s t) (touches_lose s) conn {b = None} {s = s} (self s)
+
+-- a channel goes on
+pub completed_loses : (slot : ℕ) (s : Switch) → Loses s (after_completion slot s)
+completed_loses slot s =
+    told_loses s (application_event ChannelExecuteComplete (running_at slot s) slot) (after_move at_rest slot s) (moved_loses at_rest slot s)
 
 -- a fact that bears such losses is kept by what happens to channels
 pub calls_by_losses : (P : Fact) → ((b : Stage) (t u : Switch) → P b t → Loses t u → P b u) →

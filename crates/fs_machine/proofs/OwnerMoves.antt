@@ -16,6 +16,7 @@ use Rattle.fs_chan.specs.declared.chan.Chan.{Chan}
 use Rattle.fs_chan.specs.declared.wait.Wait.{Wait}
 use Rattle.fs_chan.specs.declared.wait.Wait.TheVariants.{Legs, Bridged}
 use Rattle.fs_chan.specs.Changes.{is_live, at_rest}
+use Rattle.fs_chan.specs.Controlling.{held_by}
 use Rattle.fs_chan.specs.Bridging.{awaiting, awaited_by, bridged, in_media, at_leisure, exported_pairs, awaited_in}
 use Rattle.fs_orig.specs.declared.caller.Caller.{Caller}
 use Rattle.fs_orig.specs.declared.leg.OrigLeg.{OrigLeg}
@@ -37,7 +38,7 @@ use Rattle.fs_state.specs.declared.conn.Parting.TheVariants as parting
 use Rattle.fs_state.specs.declared.job.Asker.{Asker}
 use Rattle.fs_state.specs.declared.job.JobWork.{JobWork}
 use Rattle.fs_state.specs.declared.job.JobWork.TheVariants.{Sleep, Originate}
-use Rattle.fs_state.specs.Switch.{Switch, chan_at, with_chan, next_orig_number, orig_of, without_orig, with_bridge}
+use Rattle.fs_state.specs.Switch.{Switch, chan_at, with_chan, with_new_conn, next_orig_number, orig_of, without_orig, with_bridge}
 use Rattle.fs_state.specs.Moves.{after_move_from, orig_changed, leg_changed, after_move, orig_given_up}
 use Rattle.fs_state.specs.Hangups.{legs_at, after_hangups}
 use Rattle.fs_state.specs.Bridging.{peer_of, with_peer_from, with_peer, joined_as}
@@ -45,6 +46,7 @@ use Rattle.fs_state.proofs.LegTables.{berthed}
 use Rattle.fs_machine.specs.declared.call.Call.{Call}
 use Rattle.fs_machine.specs.Texts.{made_text, failed_text}
 use Rattle.fs_machine.specs.Connections.{conn_changed, admitted, parted, with_subs_changed}
+use Rattle.fs_machine.specs.Controlling.{coming_number, controller}
 use Rattle.fs_machine.specs.Originations.{pair_made, MadeGroup, group_made, won_by, after_winning}
 use Rattle.fs_machine.specs.Attempts.{first_group, orig_begun, tried_by_job, originate_begun, with_group, awaits}
 use Rattle.fs_machine.specs.declared.owing.Giver.{Giver}
@@ -57,9 +59,9 @@ use Rattle.fs_machine.specs.Dialing.{tried_by_slot}
 use Rattle.fs_machine.specs.Joining.{after_leaving, both_left}
 use Rattle.fs_state.specs.Leaving.{after_leaving_others}
 use Rattle.fs_machine.proofs.NameLemmas.{leg_chan, far_chan, pair_channels}
-use Rattle.fs_machine.proofs.Kept.{Stage, Fact, Links, Stays, KeptByTouches, KeptByCalls, KeptByBirths, KeptByDials, raced, KeptByMoves}
-use Rattle.fs_machine.proofs.Kept.{hold_in, IsApt, IsAtWork, apart_by, goes_on_by, KeptByApi}
-use Rattle.fs_machine.proofs.StayLemmas.{state_told_kept, moved_there, changed_there}
+use Rattle.fs_machine.proofs.Kept.{Stage, Fact, Links, Keeps, KeptByTouches, KeptByCalls, KeptByBirths, KeptByDials, raced, KeptByMoves}
+use Rattle.fs_machine.proofs.Kept.{hold_in, IsApt, IsAtWork, apart_by, goes_on_by, let_go_by, KeptByApi}
+use Rattle.fs_machine.proofs.StayLemmas.{state_told_kept, moved_there, changed_there, held_keeps}
 use Rattle.fs_machine.proofs.HangLemmas.{given_up_kept}
 use Rattle.fs_machine.proofs.Walk.{disposed_kept, group_made_kept}
 use Rattle.fs_machine.proofs.LegLemmas.{Channels, Roles, roles_of, IsLegOf, LegsStand}
@@ -133,14 +135,14 @@ awaited_held (Legs orig) = refl
 awaited_held Bridged = refl
 awaited_held _ = refl
 
-stays_awaits : {b : Stage} (old new : Chan) → Stays b old new → awaited_by new ≡ awaited_by old
-stays_awaits old new stays =
-    sym (awaited_held new.wait) ∙ (ap (λ (l : Links). awaited_in l.hold) stays.links ∙ awaited_held old.wait)
+keeps_awaits : {b : Stage} (old new : Chan) → Keeps b old new → awaited_by new ≡ awaited_by old
+keeps_awaits old new keeps =
+    sym (awaited_held new.wait) ∙ (ap (λ (l : Links). awaited_in l.hold) keeps.links ∙ awaited_held old.wait)
 
-stays_owned : {b : Stage} (slot : ℕ) (old new : Chan) (s : Switch) → chan_at s slot ≡ Some old → Stays b old new → Owned (roles_of s) →
+keeps_owned : {b : Stage} (slot : ℕ) (old new : Chan) (s : Switch) → chan_at s slot ≡ Some old → Keeps b old new → Owned (roles_of s) →
     Owned (roles_of (with_chan slot (Some new) s))
-stays_owned slot old new s there stays h =
-    alike_owned (roles_of s) slot old new there (stays_awaits old new stays) stays.live (ap (λ (l : Links). l.leg_of) stays.links) h
+keeps_owned slot old new s there keeps h =
+    alike_owned (roles_of s) slot old new there (keeps_awaits old new keeps) keeps.live (ap (λ (l : Links). l.leg_of) keeps.links) h
 
 answer_keeps : (seat slot : ℕ) → KeepsOwner (leg_changed (λ position. with_answer position seat) slot)
 answer_keeps seat slot = leg_keeps (λ position. with_answer position seat) slot (λ position o. refl)
@@ -154,7 +156,7 @@ answered_owned seat slot number s h =
 left_owned : (slot : ℕ) (s : Switch) → Owned (roles_of s) → Owned (roles_of (after_leaving slot s))
 left_owned slot s h =
     changed_there (λ (u : Switch). Owned (roles_of u)) at_leisure slot t
-    (λ c there. rest_owned (roles_of t) slot c (at_leisure c) there (none c there) (rest_dials c.socket c.state) owned) owned
+    (λ c there. rest_owned (roles_of t) slot c (at_leisure c) there (none c there) (rest_dials None c.state) owned) owned
   where
     awaited : Option ℕ
     awaited = option_and_then awaited_by (chan_at s slot)
@@ -379,7 +381,7 @@ module _ (before : Switch) (bonding : KeptByMoves before Bonding) where
     changed = λ slot old new {b = k} {s = s} there stays h. record {
       bonds = bonding.calls.touches.changed slot old new {b = k} {s = s} there stays h.bonds;
       none = record {
-        owned = stays_owned slot old new s there stays h.none.owned;
+        owned = keeps_owned slot old new s there stays.keeps h.none.owned;
         first = h.none.first;
         second = h.none.second;
       };
@@ -464,7 +466,7 @@ module _ (before : Switch) (stand : LegsStand (roles_of before)) (bonding : Kept
         record { bonds = bonding.calls.touches.globals globals {b = b} {s = s} h.bonds; owned = h.owned; room = h.room };
     changed = λ slot old new {b = b} {s = s} there stays h. record {
       bonds = bonding.calls.touches.changed slot old new {b = b} {s = s} there stays h.bonds;
-      owned = stays_owned slot old new s there stays h.owned;
+      owned = keeps_owned slot old new s there stays.keeps h.owned;
       room = h.room;
     };
     answers = λ seat slot number {b = b} {s = s} h. record {
@@ -579,6 +581,7 @@ module _ (before : Switch) (stand : LegsStand (roles_of before)) (bonding : Kept
       owned = originates_owned by groups winner caller timeout s h.room h.owned;
       room = tt;
     };
+    leavings = λ {n = n} {s = s} h. record { bonds = bonds.leavings {n = n} {s = s} h.bonds; owned = h.owned; room = tt };
     ends = λ reply notice {s = s} dead h. record {
       bonds = bonds.ends reply notice {s = s} dead h.bonds;
       owned = nothing_owned (roles_of s) (length s.origs) h.owned;
@@ -629,8 +632,8 @@ module _ (before : Switch) (stand : LegsStand (roles_of before)) (bonding : Kept
         owned = conn_owned admitted conn s h.owned;
         room = tt;
       };
-      parted = λ why {n = n} {s = s} leaves h. record {
-        bonds = (bonding.commands conn).parted why {n = n} {s = s} leaves h.bonds;
+      parted = λ why {n = n} {s = s} leaves was h. record {
+        bonds = (bonding.commands conn).parted why {n = n} {s = s} leaves (let_go_by was (λ t k. k.bonds)) h.bonds;
         owned = conn_owned (parted why) conn s h.owned;
         room = tt;
       };
@@ -643,12 +646,19 @@ module _ (before : Switch) (stand : LegsStand (roles_of before)) (bonding : Kept
     visits = record {
       arrived = λ {s = s} h. record { bonds = bonding.visits.arrived {s = s} h.bonds; owned = h.owned; room = tt };
       taken = λ conn {s = s} h. record { bonds = bonding.visits.taken conn {s = s} h.bonds; owned = h.owned; room = tt };
-      silent = λ conn {s = s} h. record {
-        bonds = bonding.visits.silent conn {s = s} h.bonds;
+      holds = λ slot c text {s = s} there waits room h. record {
+        bonds = bonding.visits.holds slot c text {s = s} there waits room h.bonds;
+        owned = keeps_owned slot c (held_by (coming_number s) c) (with_new_conn (controller slot c text) s) there
+            (held_keeps {b = None} (coming_number s) c text waits) h.owned;
+        room = tt;
+      };
+      silent = λ conn {s = s} was h. record {
+        bonds = bonding.visits.silent conn {s = s} (let_go_by was (λ t k. k.bonds)) h.bonds;
         owned = conn_owned (parted parting.EndOfInput) conn s h.owned;
         room = tt;
       };
-      left = λ conn {s = s} h. record { bonds = bonding.visits.left conn {s = s} h.bonds; owned = h.owned; room = tt };
+      left = λ conn {s = s} was h.
+          record { bonds = bonding.visits.left conn {s = s} (let_go_by was (λ t k. k.bonds)) h.bonds; owned = h.owned; room = tt };
       halted = λ reply notice {s = s} dead h. record {
         bonds = bonding.visits.halted reply notice {s = s} dead h.bonds;
         owned = nothing_owned (roles_of s) (length s.origs) h.owned;

@@ -10,7 +10,7 @@ use Rattle.fs_text.specs.Texts.{Text}
 use Rattle.fs_cmd.specs.Commands as command
 use Rattle.fs_cmd.specs.Commands.{Command, command_of, Message, Execute, Hangup, BadCall}
 use Rattle.fs_cmd.specs.Frames.{accepted, invalid, bye, format_unsupported, message_taken, invalid_session, invalid_call, messages_full}
-use Rattle.fs_cmd.specs.Frames.{jobs_full}
+use Rattle.fs_cmd.specs.Frames.{jobs_full, denied}
 use Rattle.fs_cmd.specs.declared.command.Form.{Form}
 use Rattle.fs_cmd.specs.declared.command.Form.TheVariants.{Plain, Json, Xml}
 use Rattle.fs_filter.specs.Subscriptions.{Subscription, has_filter}
@@ -50,16 +50,21 @@ use Rattle.fs_machine.specs.declared.owing.Giver.TheVariants as giver
 use Rattle.fs_machine.specs.Owing.{after_job_begin, job_uuid, background_begun}
 use Rattle.fs_machine.specs.Api.{done_by}
 use Rattle.fs_machine.specs.Commands.{with_reply, after_dismissal, after_password, with_response_of, after_asking, after_subscribing}
-use Rattle.fs_machine.specs.Commands.{with_begun_told, after_background}
+use Rattle.fs_machine.specs.Commands.{with_begun_told, after_background, with_response, control_at, controlled_uuid, message_done_to}
+use Rattle.fs_machine.specs.Commands.{may_command_all, unless_denied, greeted_by}
 use Rattle.fs_machine.specs.Commands.{queued_on, message_done, message_done_at, message_sent, command_done_in, command_done}
 use Rattle.fs_machine.specs.Done.{Done}
-use Rattle.fs_machine.specs.Step.{reads, new_conn, step}
+use Rattle.fs_machine.specs.Controlling.{coming_number, after_dial, after_letting_go, after_leavings, greeting_for}
+use Rattle.fs_machine.specs.Step.{Acted, reads, new_conn, step}
 use Rattle.fs_machine.specs.Concerns.{is_its_own, KeepsPhase, IsParted, KeepsOrParts}
 use Rattle.fs_machine.proofs.Kept.{Fact, KeptByCalls, KeptByApi}
 use Rattle.fs_machine.proofs.ShortLemmas.{api_short}
 use Rattle.fs_machine.proofs.RestLemmas.{Rest, calls_by_rest, group_made_rest, hung_rest}
 use Rattle.fs_machine.proofs.ActWalk.{done_kept}
-use Rattle.fs_machine.proofs.KeepLemmas.{row_changed, IsLeft, IsStopped, Settles, stop_settles, act_keeps}
+use Rattle.fs_machine.proofs.KeepLemmas.{Sockets, row_changed, IsLeft, IsStopped, Settles, stop_settles, left_settles, keeps_left}
+use Rattle.fs_machine.proofs.KeepLemmas.{freed_sockets, act_keeps}
+use Rattle.fs_machine.proofs.LeftLemmas.{NoneLeft, empty_none_left, take_done, arrive_done}
+use Rattle.fs_machine.proofs.ComingLemmas.{TakesHold, TakesNone, dial_takes, unlinked, none_keeps}
 
 -- ---- a connection stays
 
@@ -93,7 +98,7 @@ settled_parts conn s t settles = by settles.way
     by : IsLeft (conn_of s conn) (conn_of t conn) ⊎ IsStopped (conn_of s conn) (conn_of t conn) → KeepsOrParts conn s t
     by (inl stays) = inl (record { phase = stays.phase; parting = stays.parting })
     by (inr stops) =
-        inr (record { read = stops.read; ending = stops.ending; why = parting.Stopped; parting = stops.parting; others = refl })
+        inr (record { read = stops.read; ending = stops.ending; why = stops.why; parting = stops.parting; others = stops.others })
 
 -- one that has parted reads no commands, so that it parts once
 parts_trans : (conn : ℕ) (s t u : Switch) → KeepsOrParts conn s t → KeepsOrParts conn t u → KeepsOrParts conn s u
@@ -115,8 +120,9 @@ parts_trans conn s t u (inr first) (inl second) = inr (record {
 parts_trans conn s t u (inr first) (inr second) =
     let none : reads phase.Ending ≡ true = sym (ap reads first.ending) ∙ second.read in absurd (cc none)
 
--- an act of nobody
+-- an act of nobody, by which none comes
 abbrev pub IsOfNobody : Act → Type 0
+IsOfNobody (act.Dialed slot linked) = linked ≡ false
 IsOfNobody (act.Work slot) = Unit {0}
 IsOfNobody (act.Job number) = Unit {0}
 IsOfNobody act.Halt = Unit {0}
@@ -126,6 +132,18 @@ IsOfNobody _ = ⊥
 pub others_part : (conn moment : ℕ) (a : Act) (s : Switch) → IsOfNobody a →
     KeepsOrParts conn s (step s (record { moment = moment; act = a })).state
 unfolding step
+others_part conn moment (act.Dialed slot true) s such = absurd (both_ways true such refl)
+others_part conn moment (act.Dialed slot false) s such =
+    by (dial_takes false slot (at_moment moment s))
+  where
+    by : TakesHold false slot (at_moment moment s) ⊎ TakesNone false slot (at_moment moment s) →
+        KeepsOrParts conn s (step s (record { moment = moment; act = act.Dialed slot false })).state
+    by (inl takes) =
+        absurd (none-some (coming_number s) (sym (unlinked slot (at_moment moment s)) ∙ takes.number))
+    by (inr none) =
+        settled_parts conn s (step s (record { moment = moment; act = act.Dialed slot false })).state
+        ((keeps_left (at_moment moment s) (after_dial false slot (at_moment moment s))
+        (none_keeps {who = None} {may_end = false} false slot (at_moment moment s) none)).others conn (none-some conn))
 others_part conn moment (act.Work slot) s such =
     settled_parts conn s (step s (record { moment = moment; act = act.Work slot })).state
     ((act_keeps (act.Work slot) (at_moment moment s)).others conn (none-some conn))
@@ -140,11 +158,13 @@ others_part conn moment (act.Command giver block) s such = absurd such
 others_part conn moment (act.Take taker) s such = absurd such
 others_part conn moment (act.Close gone how) s such = absurd such
 
--- taking a frame keeps it so
-pub take_keeps : (conn moment taker : ℕ) (s : Switch) →
+-- taking a frame keeps it so, where no connection stands whose channel has left it
+pub take_keeps : (conn moment taker : ℕ) (s : Switch) → NoneLeft s →
     KeepsPhase conn s (step s (record { moment = moment; act = act.Take taker })).state
 unfolding step
-take_keeps conn moment taker s = record { phase = refl; parting = refl }
+take_keeps conn moment taker s none =
+    keeps_same conn s (step s (record { moment = moment; act = act.Take taker })).state
+    (ap (λ (done : Acted). conn_of done.state conn) (take_done taker (at_moment moment s) none))
 
 -- ---- api commands
 
@@ -181,6 +201,7 @@ module _ (conn : ℕ) (s : Switch) where
     draws = λ {s = t} h. parts_trans conn s t (with_next_identifier t) h (inl (keeps_same conn t (with_next_identifier t) refl));
     sleeps = λ until {s = t} may room h. owing_keeps (Sleep until) t h;
     originates = λ groups winner caller timeout {s = t} may are short room h. originates_keeps groups winner caller timeout t h;
+    leavings = λ {s = t} h. parts_trans conn s t (after_leavings t) h (settled_parts conn t (after_leavings t) (left_settles t conn));
     ends = λ reply notice {s = t} dead h. parts_trans conn s t (ended reply notice t) h
         (settled_parts conn t (ended reply notice t) (stop_settles reply notice t conn));
   }
@@ -213,8 +234,8 @@ keeps_unparted : (conn : ℕ) (given : Command) (s t : Switch) → parting_at s 
 keeps_unparted conn given s t none keeps = unparted conn given s t (keeps.parting ∙ none)
 
 -- it has parted, but not by its own doing
-others_parted : (conn : ℕ) (given : Command) (s t : Switch) → IsParted conn s t → CommandParts conn given s t
-others_parted conn given s t parts = record {
+others_parted : (conn : ℕ) (given : Command) (s past t : Switch) → IsParted conn past t → CommandParts conn given s t
+others_parted conn given s past t parts = record {
   reads_on = λ reading. let none : reads phase.Ending ≡ true = ap reads (sym parts.ending) ∙ reading in absurd (cc none);
   exit = λ is. absurd (apart parting.Exit refl is);
   refused = λ is. absurd (apart parting.AuthRefused refl is);
@@ -230,7 +251,20 @@ others_parted conn given s t parts = record {
 parts_unparted : (conn : ℕ) (given : Command) (s t : Switch) → parting_at s conn ≡ None → KeepsOrParts conn s t →
     CommandParts conn given s t
 parts_unparted conn given s t none (inl keeps) = keeps_unparted conn given s t none keeps
-parts_unparted conn given s t none (inr parts) = others_parted conn given s t parts
+parts_unparted conn given s t none (inr parts) = others_parted conn given s s t parts
+
+-- what it has parted for stays where no channel has left it, and else it parts by its channel
+left_parts : (conn : ℕ) (given : Command) (s t : Switch) → CommandParts conn given s t → CommandParts conn given s (after_leavings t)
+left_parts conn given s t parts = by (settled_parts conn t (after_leavings t) (left_settles t conn))
+  where
+    by : KeepsOrParts conn t (after_leavings t) → CommandParts conn given s (after_leavings t)
+    by (inl keeps) = record {
+      reads_on = λ reading. keeps.parting ∙ parts.reads_on (sym (ap reads keeps.phase) ∙ reading);
+      exit = λ is. parts.exit (sym keeps.parting ∙ is);
+      refused = λ is. parts.refused (sym keeps.parting ∙ is);
+      hears = λ is. parts.hears (sym keeps.parting ∙ is);
+    }
+    by (inr left) = others_parted conn given s t (after_leavings t) left
 
 -- the password opens the way
 admitted_unparted : (conn : ℕ) (s : Switch) → parting_at s conn ≡ None → parting_at (conn_changed admitted conn s) conn ≡ None
@@ -255,6 +289,14 @@ dismissed conn why s reading = by (conn_of s conn) refl
         absurd (cc closed)
     by (Some c) is =
         let there = row_changed s.conns conn c (parted why c) is in (ap phase_of there, ap (option_and_then parting_of) there)
+
+-- so it does once it has let its channel go
+dismissed_free : (conn : ℕ) (why : Parting) (s : Switch) → reads (phase_at s conn) ≡ true →
+    (phase_at (conn_changed (parted why) conn (after_letting_go conn s)) conn ≡ phase.Ending)
+    × (parting_at (conn_changed (parted why) conn (after_letting_go conn s)) conn ≡ Some why)
+dismissed_free conn why s reading =
+    dismissed conn why (after_letting_go conn s)
+    (ap (λ (x : Sockets). reads (phase_of (row_of x.conns conn))) (freed_sockets conn s) ∙ reading)
 
 -- for its exit
 exits : (conn : ℕ) (given : Command) (s t : Switch) → given ≡ command.Exit → phase_at t conn ≡ phase.Ending →
@@ -286,14 +328,14 @@ offered conn word s reading none = by (bytes_eq word s.settings.password) refl
         (if same then with_reply conn accepted (conn_changed admitted conn s) else after_dismissal conn parting.AuthRefused invalid s)
     by true is =
         unparted conn (command.Auth word) s (with_reply conn accepted (conn_changed admitted conn s)) (admitted_unparted conn s none)
-    by false is = let parts = dismissed conn parting.AuthRefused s reading in
+    by false is = let parts = dismissed_free conn parting.AuthRefused s reading in
         refuses conn word s (after_dismissal conn parting.AuthRefused invalid s)
         (λ same. both_ways (bytes_eq word s.settings.password) is ((bytes_eq-Decides word s.settings.password).1 same)) parts.0 parts.1
 
 dismisses : (conn : ℕ) (s : Switch) → reads (phase_at s conn) ≡ true →
     CommandParts conn command.Exit s (after_dismissal conn parting.Exit bye s)
 dismisses conn s reading =
-    let parts = dismissed conn parting.Exit s reading in
+    let parts = dismissed_free conn parting.Exit s reading in
     exits conn command.Exit s (after_dismissal conn parting.Exit bye s) refl parts.0 parts.1
 
 -- what it subscribes leaves it as it is
@@ -346,9 +388,17 @@ found_keeps : (conn : ℕ) (uuid : Text) (message : Message) (found : Option ℕ
 found_keeps conn uuid message None s = replied_keeps conn (invalid_session uuid) s
 found_keeps conn uuid message (Some slot) s = message_keeps conn uuid message slot s
 
+named_keeps : (conn : ℕ) (uuid : Option Text) (message : Message) (s : Switch) → KeepsPhase conn s (message_done_to conn uuid message s)
+named_keeps conn None message s = replied_keeps conn (invalid_session []) s
+named_keeps conn (Some uuid) message s = found_keeps conn uuid message (slot_named uuid s) s
+
 sent_keeps : (conn : ℕ) (uuid : Option Text) (message : Message) (s : Switch) → KeepsPhase conn s (message_sent conn uuid message s)
-sent_keeps conn None message s = replied_keeps conn (invalid_session []) s
-sent_keeps conn (Some uuid) message s = found_keeps conn uuid message (slot_named uuid s) s
+sent_keeps conn None message s = named_keeps conn (controlled_uuid (control_at s conn)) message s
+sent_keeps conn (Some uuid) message s = named_keeps conn (Some uuid) message s
+
+greeted_keeps : (conn : ℕ) (found : Option Text) (s : Switch) → KeepsPhase conn s (greeted_by conn found s)
+greeted_keeps conn None s = replied_keeps conn _ s
+greeted_keeps conn (Some text) s = keeps_same conn s (greeted_by conn (Some text) s) refl
 
 -- a job begins in the background
 begun_keeps : (conn : ℕ) (given : Option Text) (text : Text) (s : Switch) → KeepsPhase conn s (background_begun given text s)
@@ -362,6 +412,15 @@ background_keeps conn given text s =
     either_keeps conn s (is_full_of_jobs s) (with_reply conn jobs_full s) told (replied_keeps conn jobs_full s)
     (keeps_trans conn s begun told (begun_keeps conn given text s) (keeps_same conn begun told refl))
 
+-- what is not for the controller of one channel is denied to it
+permitted_parts : (conn : ℕ) (given : Command) (done : Switch → Switch) (s : Switch) → parting_at s conn ≡ None →
+    CommandParts conn given s (done s) → CommandParts conn given s (unless_denied conn done s)
+permitted_parts conn given done s none parts = by (may_command_all (control_at s conn))
+  where
+    by : (may : Bool) → CommandParts conn given s (if may then done s else with_reply conn denied s)
+    by true = parts
+    by false = keeps_unparted conn given s (with_reply conn denied s) none (replied_keeps conn denied s)
+
 -- a command in a phase in which commands are read
 commanded_parts : (conn : ℕ) (now : Phase) (given : Command) (s : Switch) → reads now ≡ true → phase_at s conn ≡ now →
     parting_at s conn ≡ None → CommandParts conn given s (command_done_in now conn given s)
@@ -373,7 +432,8 @@ commanded_parts conn phase.Ready (command.Auth word) s reading at none =
 commanded_parts conn phase.Ready command.Exit s reading at none = dismisses conn s (ap reads at ∙ reading)
 commanded_parts conn phase.Ready (command.Api text) s reading at none =
     let done : Done = done_by (giver.Conn conn) (api_of text) s in
-    parts_unparted conn (command.Api text) s _ none (responded_parts conn done.reply s done.state (done_parts conn s text))
+    permitted_parts conn (command.Api text) (λ t. with_response conn (done_by (giver.Conn conn) (api_of text) t)) s none
+    (parts_unparted conn (command.Api text) s _ none (responded_parts conn done.reply s done.state (done_parts conn s text)))
 commanded_parts conn phase.Ready (command.Event form names) s reading at none =
     keeps_unparted conn (command.Event form names) s _ none (subscribed_keeps conn form names s)
 commanded_parts conn phase.Ready (command.Nixevent names) s reading at none =
@@ -387,9 +447,12 @@ commanded_parts conn phase.Ready (command.FilterDelete header value) s reading a
     keeps_unparted conn (command.FilterDelete header value) s _ none
     (either_keeps conn s (has_filter (subs_at s conn).filters header value) _ _ (asked_keeps conn _ _ s) (replied_keeps conn _ s))
 commanded_parts conn phase.Ready (command.Bgapi text job) s reading at none =
-    keeps_unparted conn (command.Bgapi text job) s _ none (background_keeps conn job text s)
+    permitted_parts conn (command.Bgapi text job) (after_background conn job text) s none
+    (keeps_unparted conn (command.Bgapi text job) s _ none (background_keeps conn job text s))
 commanded_parts conn phase.Ready (command.Sendmsg uuid message) s reading at none =
     keeps_unparted conn (command.Sendmsg uuid message) s _ none (sent_keeps conn uuid message s)
+commanded_parts conn phase.Ready command.Connect s reading at none =
+    keeps_unparted conn command.Connect s _ none (greeted_keeps conn (greeting_for (control_at s conn) s) s)
 commanded_parts conn phase.Ready given s reading at none = keeps_unparted conn given s _ none (replied_keeps conn _ s)
 commanded_parts conn phase.Ending given s reading at none = absurd (cc reading)
 commanded_parts conn phase.Closed given s reading at none = absurd (cc reading)
@@ -400,8 +463,9 @@ pub command_parts : (conn moment : ℕ) (block : Text) (s : Switch) → reads (p
 unfolding step command_done
 command_parts conn moment block s reading none =
     let now : Switch = at_moment moment s in
-    let parts : CommandParts conn (command_of block) now (command_done_in (phase_at s conn) conn (command_of block) now) =
-    commanded_parts conn (phase_at s conn) (command_of block) now reading refl none in
+    let done : Switch = command_done_in (phase_at s conn) conn (command_of block) now in
+    let parts : CommandParts conn (command_of block) now (after_leavings done) =
+    left_parts conn (command_of block) now done (commanded_parts conn (phase_at s conn) (command_of block) now reading refl none) in
     record { reads_on = parts.reads_on; exit = parts.exit; refused = parts.refused; hears = parts.hears }
 
 -- ---- the first connection
@@ -426,4 +490,7 @@ first_parting (suc count) = refl
 pub arrival_unparted : (config : Configuration) (moment : ℕ) →
     parting_at (step (empty config) (record { moment = moment; act = act.Arrive })).state 1 ≡ None
 unfolding step
-arrival_unparted config moment = first_parting config.settings.max_connections
+arrival_unparted config moment =
+    ap (λ (done : Acted). parting_at done.state 1)
+    (arrive_done (at_moment moment (empty config)) (empty_none_left config))
+    ∙ first_parting config.settings.max_connections

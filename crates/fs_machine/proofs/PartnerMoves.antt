@@ -11,6 +11,7 @@ use Rattle.fs_bridge.specs.Orders.{has_slot}
 use Rattle.fs_chan.specs.declared.chan.Chan.{Chan}
 use Rattle.fs_chan.specs.Bridging.{unbridged, in_media}
 use Rattle.fs_chan.specs.Changes.{is_live, at_rest, parked, hung_up}
+use Rattle.fs_chan.specs.Controlling.{held_by}
 use Rattle.fs_orig.specs.declared.orig.Orig.{Orig}
 use Rattle.fs_orig.specs.declared.winner.Winner.{Winner}
 use Rattle.fs_orig.specs.declared.winner.Winner.TheVariants.{App, Route}
@@ -310,13 +311,15 @@ remains_partners = record {
   globals = λ globals h. record { ties = h.ties; zero = h.zero };
   joins = λ kind caller answerer {b = b} {s = s} can h.
       joins_by_remains Partners (λ event b t k. record { ties = k.ties; zero = k.zero })
-      (λ rows b t k. record { ties = k.ties; zero = k.zero }) (λ slot old new b t there remains k. put slot old new t there remains k)
+      (λ rows b t k. record { ties = k.ties; zero = k.zero })
+      (λ slot old new b t there remains holder k. put slot old new t there remains k)
       kind caller answerer b s h;
   parts = λ slot row {b = b} {s = s} part h.
       parts_by_remains Partners (λ event b t k. record { ties = k.ties; zero = k.zero })
-      (λ rows b t k. record { ties = k.ties; zero = k.zero }) (λ slot old new b t there remains k. put slot old new t there remains k)
+      (λ rows b t k. record { ties = k.ties; zero = k.zero })
+      (λ slot old new b t there remains holder k. put slot old new t there remains k)
       row b s h;
-  remains = λ slot old new {s = s} there remains h. put slot old new s there remains h;
+  remains = λ slot old new {s = s} there remains holder h. put slot old new s there remains h;
   hung = λ named {s = s} h. record { ties = hung_ties named s h; zero = hung_zero named s h.zero };
   more = λ h. h;
   gone = λ slot old {s = s} there dead h. record {
@@ -355,13 +358,17 @@ won_zero winner slot s zero =
 pub partners_moves : (before : Switch) → KeptByMoves before Partners
 partners_moves before =
     moves_by_front before Partners same_partners
-    (calls_by_remains before Partners same_partners remains_partners births_partners
+    (calls_by_remains before Partners (λ b t u h e conns. same_partners b t u h e) remains_partners births_partners
     (λ at u live h. media_partners at u h))
     births_partners
-    (dials_by_remains before Partners same_partners remains_partners births_partners
+    (dials_by_remains before Partners (λ b t u h e conns. same_partners b t u h e) remains_partners births_partners
     (λ at u live h. media_partners at u h))
     (λ job who winner caller orig leg slots does won h. record {
       ties = won_partners winner (unwrap_or leg.slot 0) (raced slots before) h.ties;
       zero = won_zero winner (unwrap_or leg.slot 0) (raced slots before) h.zero;
     })
     (λ s h. record { ties = h.ties; zero = h.zero })
+    (λ slot conn c text s there waits h. record {
+      ties = put_partners slot c (held_by conn c) s there refl (λ live. live) h.ties;
+      zero = zero_put s slot (Some (held_by conn c)) (not_zero s slot c there h.zero) h.zero;
+    })

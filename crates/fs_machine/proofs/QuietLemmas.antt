@@ -1,20 +1,19 @@
 -- What a run leaves of a connection where it goes on without naming it, and what an entry of its own does to it.
 use Rattle.std.proofs.Common.{◌≡◌, ℕ, zero, suc, ◌-◌, ◌^◌, ◌<◌, ◌≤◌, ◌==◌, ◌||◌, Bool, true, false, not, if◌then◌else◌, List, [], ◌∷◌}
-use Rattle.std.proofs.Common.{◌++◌, length, take, slice_get, Option, None, Some, unwrap_or, ◌⊎◌, inl, inr, refl, sym, ap, subst, ◌∙◌, arith}
+use Rattle.std.proofs.Common.{◌++◌, length, take, slice_get, Option, None, Some, is_some, unwrap_or, ◌⊎◌, inl, inr, refl, sym, ap, subst}
+use Rattle.std.proofs.Common.{◌∙◌, arith}
 use Rattle.std.proofs.Common.{append_assoc, append-nil}
 use Rattle.std.proofs.lemmas.Bool.{both_ways, ne_eqb, eq-eqb, cases_eq}
 use Rattle.std.proofs.lemmas.Option.{same_Some, none-some}
 use Rattle.fs_text.specs.Texts.{Text}
 use Rattle.fs_doc.specs.Reading.{Configuration}
 use Rattle.fs_seats.specs.Rows.{seat_of}
-use Rattle.fs_seats.proofs.RowLemmas.{seat_of-without_row_same}
-use Rattle.fs_state.specs.Drawn as numbers
 use Rattle.fs_state.specs.Switch.{Switch, empty, at_moment, waiting_for}
 use Rattle.fs_book.specs.Opened.{OpensAt, OwnsNumber, NoneNames, Quiet}
-use Rattle.fs_book.specs.Numbered.{count_among, counted_where}
+use Rattle.fs_book.specs.Numbered.{counted_where, count_behind}
 use Rattle.fs_machine.specs.declared.entry.Entry.{Entry}
 use Rattle.fs_machine.specs.declared.entry.Act.{Act}
-use Rattle.fs_machine.specs.declared.entry.Act.TheVariants.{Arrive, Command, Take, Close, Work, Job, Halt}
+use Rattle.fs_machine.specs.declared.entry.Act.TheVariants.{Arrive, Command, Take, Close, Dialed, Work, Job, Halt}
 use Rattle.fs_machine.specs.declared.entry.Closing.TheVariants.{EndOfInput, Sent, Failed}
 use Rattle.fs_machine.specs.declared.refusal.Refusal.TheVariants as refusal
 use Rattle.fs_machine.specs.declared.reply.Reply.{Reply}
@@ -24,18 +23,22 @@ use Rattle.fs_machine.specs.Questions.{owed_to}
 use Rattle.fs_machine.specs.Step.{is_closed, refused_where, refusal_of, act_done, step}
 use Rattle.fs_machine.specs.Runs.{run_from, IsRunFrom}
 use Rattle.fs_machine.specs.Frames.{given_by, frames_from, handed_in, handed_from, command_in, commands_of}
-use Rattle.fs_machine.specs.Concerns.{actor_of, KeepsOrParts, IsOthers}
+use Rattle.fs_machine.specs.Controlling.{coming_number}
+use Rattle.fs_machine.specs.Concerns.{actor_of, comer_of, first_phase, KeepsOrParts, IsOthers}
 use Rattle.fs_machine.specs.Laws.{state_after, given_to, handed_to}
-use Rattle.fs_machine.specs.Turned.{IsJournal, Answers, opens, names, is_arrival, arrives}
+use Rattle.fs_machine.specs.Turned.{IsJournal, Answers, opens, names, comes_by, comes_after}
 use Rattle.fs_machine.specs.Carried.{closes_sent, is_sent, shuts, HasCome, Carries, Does, Begins}
 use Rattle.fs_machine.proofs.KeepLemmas.{Keeps, act_keeps}
 use Rattle.fs_machine.proofs.WaitingLemmas.{none_closed, some_open, keeps_seat}
-use Rattle.fs_machine.proofs.OrderLemmas.{Orderly, acted_drawn, none_refused, not_full, not_refused, room_left}
+use Rattle.fs_machine.proofs.OrderLemmas.{Orderly, gone_seat, acted_drawn, none_refused, not_full, not_refused}
+use Rattle.fs_machine.proofs.OrderLemmas.{room_left, advanced_orderly}
 use Rattle.fs_machine.proofs.OrderLemmas.{entry_orderly, run_orderly, empty_orderly}
 use Rattle.fs_machine.proofs.RunLemmas.{run_more, is_run_more, run_behind, runs_both}
 use Rattle.fs_machine.proofs.FrameLemmas.{handed_more}
 use Rattle.fs_machine.proofs.FramesLaws.{frames_more}
-use Rattle.fs_machine.proofs.ConcernLemmas.{whose, others, own, comes, closed_gives_none, reads_open}
+use Rattle.fs_machine.proofs.ConcernLemmas.{comer_number, comer_handed, others, own, comes, closed_gives_none, reads_open}
+use Rattle.fs_machine.proofs.BehindLemmas.{counted_at}
+use Rattle.fs_machine.proofs.PartLemmas.{take_keeps}
 use Rattle.fs_machine.proofs.ArrivalLemmas.{entry_counts, run_counts, none_more}
 
 -- ---- one list behind another
@@ -78,16 +81,13 @@ sent_append conn (x ∷ xs) ys =
 -- ---- an entry that does not name a connection
 
 -- one that has come is not the one that comes
-apart : (conn : ℕ) (act : Act) (s : Switch) → s.drawn.conns < 2 ^ 32 - 1 → HasCome conn s → (actor_of act ≡ Some conn → ⊥) →
-    whose act s ≡ Some conn → ⊥
-apart conn Arrive s room come differs is = let n = same_Some (numbers.with_conn s.drawn).conns conn is in omega (arith, room, come, n)
-apart conn act s room come differs is = differs is
+apart : (conn : ℕ) (act : Act) (s : Switch) → s.drawn.conns < 2 ^ 32 - 1 → HasCome conn s → comer_of act s ≡ Some conn → ⊥
+apart conn act s room come is = let n = comer_number act s conn is in omega (arith, room, come, n)
 
 pub others_of : (conn : ℕ) (s : Switch) (entry : Entry) → Orderly s → refusal_of s entry ≡ None → HasCome conn s →
     (names entry ≡ Some conn → ⊥) → IsOthers conn s entry
 others_of conn s entry orderly none come differs =
-    others conn s entry orderly none
-    (apart conn entry.act (at_moment entry.moment s) (room_left s orderly (not_full s entry none)) come differs)
+    others conn s entry orderly none differs (apart conn entry.act s (room_left s orderly (not_full s entry none)) come)
 
 -- one that has come has come for good
 pub come_on : (conn : ℕ) (s : Switch) (entry : Entry) → Orderly s → refusal_of s entry ≡ None → HasCome conn s →
@@ -210,7 +210,8 @@ own_shut conn moment (Command giver block) s orderly none actor is_open =
     (step s (record { moment = moment; act = Command giver block })).state
     (act_keeps (Command giver block) (at_moment moment s)) refl
     (entry_orderly s (record { moment = moment; act = Command giver block }) orderly none) is_open
-own_shut conn moment (Take taker) s orderly none actor is_open = is_open
+own_shut conn moment (Take taker) s orderly none actor is_open =
+    ap is_closed (take_keeps conn moment taker s orderly.settled).phase ∙ is_open
 own_shut conn moment (Close closer EndOfInput) s orderly none actor is_open =
     kept_open conn (at_moment moment s) (act_done (Close closer EndOfInput) (at_moment moment s)).state
     (step s (record { moment = moment; act = Close closer EndOfInput })).state
@@ -220,12 +221,13 @@ own_shut conn moment (Close closer Sent) s orderly none actor is_open =
     gone_shut conn (act_done (Close closer Sent) (at_moment moment s)).state
     (step s (record { moment = moment; act = Close closer Sent })).state refl
     (subst (λ n. seat_of (act_done (Close closer Sent) (at_moment moment s)).state.conns n ≡ None) (same_Some closer conn actor)
-    (seat_of-without_row_same s.conns closer orderly.ordered.distinct))
+    (gone_seat closer (at_moment moment s) (advanced_orderly moment s orderly).ordered))
 own_shut conn moment (Close closer Failed) s orderly none actor is_open =
     gone_shut conn (act_done (Close closer Failed) (at_moment moment s)).state
     (step s (record { moment = moment; act = Close closer Failed })).state refl
     (subst (λ n. seat_of (act_done (Close closer Failed) (at_moment moment s)).state.conns n ≡ None) (same_Some closer conn actor)
-    (seat_of-without_row_same s.conns closer orderly.ordered.distinct))
+    (gone_seat closer (at_moment moment s) (advanced_orderly moment s orderly).ordered))
+own_shut conn moment (Dialed slot linked) s orderly none actor is_open = absurd (none-some conn actor)
 own_shut conn moment (Work slot) s orderly none actor is_open = absurd (none-some conn actor)
 own_shut conn moment (Job number) s orderly none actor is_open = absurd (none-some conn actor)
 own_shut conn moment Halt s orderly none actor is_open = absurd (none-some conn actor)
@@ -318,34 +320,48 @@ others_begin conn s entry one before = record {
   handed = one.handed;
 }
 
+-- one is counted just where one comes
+comer_comes : (act : Act) (s : Switch) → is_some (comer_of act s) ≡ comes_by act s
+comer_comes (Dialed slot linked) s = refl
+comer_comes _ s = refl
+
+-- one that comes is open
+first_open : (act : Act) → is_closed (first_phase act) ≡ false
+first_open Arrive = refl
+first_open _ = refl
+
 begins_by : (conn moment : ℕ) (act : Act) (s : Switch) → Orderly s → refusal_of s (record { moment = moment; act = act }) ≡ None →
     (actor_of act ≡ Some conn → ⊥) → BeginsBy conn s (record { moment = moment; act = act })
-begins_by conn moment Arrive s orderly none differs = by (cases_eq (numbers.with_conn s.drawn).conns conn)
+begins_by conn moment act s orderly none differs = by (comer_of act s) refl
   where
+    entry : Entry
+    entry = record { moment = moment; act = act }
+
     room : s.drawn.conns < 2 ^ 32 - 1
-    room = room_left s orderly (not_full s (record { moment = moment; act = Arrive }) none)
+    room = room_left s orderly (not_full s entry none)
 
-    counts : (step s (record { moment = moment; act = Arrive })).state.drawn.conns ≡ suc s.drawn.conns
-    counts = entry_counts s (record { moment = moment; act = Arrive }) orderly none
+    next : coming_number s ≡ suc s.drawn.conns
+    next = omega (arith, room)
 
-    number : (numbers.with_conn s.drawn).conns ≡ suc s.drawn.conns
-    number = omega (arith, room)
+    counts : (b : Bool) → is_some (comer_of act s) ≡ b → (step s entry).state.drawn.conns ≡ counted_where b s.drawn.conns
+    counts b is =
+        entry_counts s entry orderly none ∙ ap (λ b. counted_where b s.drawn.conns) (sym (comer_comes act s) ∙ is)
 
-    by : ((numbers.with_conn s.drawn).conns ≡ conn) ⊎ ((numbers.with_conn s.drawn).conns ≡ conn → ⊥) →
-        BeginsBy conn s (record { moment = moment; act = Arrive })
-    by (inl same) =
-        subst (λ n. BeginsBy n s (record { moment = moment; act = Arrive })) same
-        (record { live = λ was come. ap is_closed (comes moment s orderly none).after; handed = refl })
-    by (inr differ) =
-        others_begin conn s (record { moment = moment; act = Arrive })
-        (others conn s (record { moment = moment; act = Arrive }) orderly none
-        (λ is. differ (same_Some (numbers.with_conn s.drawn).conns conn is)))
-        (come_below conn s.drawn.conns (step s (record { moment = moment; act = Arrive })).state.drawn.conns counts
-        (λ is. differ (number ∙ sym counts ∙ is)))
-begins_by conn moment act s orderly none differs =
-    others_begin conn s (record { moment = moment; act = act }) (others conn s (record { moment = moment; act = act }) orderly none differs)
-    (come_before (is_arrival act) conn s.drawn.conns (step s (record { moment = moment; act = act })).state.drawn.conns refl
-    (entry_counts s (record { moment = moment; act = act }) orderly none))
+    comes_now : (number : ℕ) → comer_of act s ≡ Some number → (number ≡ conn) ⊎ (number ≡ conn → ⊥) → BeginsBy conn s entry
+    comes_now number is (inl same) = record {
+      live = λ was come. ap is_closed (comes conn moment act s orderly none (is ∙ ap Some same)).after ∙ first_open act;
+      handed = comer_handed act s s conn number is;
+    }
+    comes_now number is (inr apart) =
+        others_begin conn s entry (others conn s entry orderly none differs (λ its. apart (same_Some number conn (sym is ∙ its))))
+        (come_below conn s.drawn.conns (step s entry).state.drawn.conns (counts true (ap is_some is))
+        (λ its. apart (sym (comer_number act s number is) ∙ (next ∙ (sym (counts true (ap is_some is)) ∙ its)))))
+
+    by : (comer : Option ℕ) → comer_of act s ≡ comer → BeginsBy conn s entry
+    by None is =
+        others_begin conn s entry (others conn s entry orderly none differs (λ its. none-some conn (sym is ∙ its)))
+        (come_before false conn s.drawn.conns (step s entry).state.drawn.conns refl (counts false (ap is_some is)))
+    by (Some number) is = comes_now number is (cases_eq number conn)
 
 begun : (conn : ℕ) (s : Switch) (entries : List Entry) → Orderly s → IsRunFrom s entries → NoneNames names conn entries →
     Begun conn s entries
@@ -367,31 +383,15 @@ next_opened : (b : Bool) (count number : ℕ) → ◌≡◌ {A = Option ℕ} (if
 next_opened true count number is = (refl, cc is)
 next_opened false count number is = absurd (cc is)
 
-counted_on : (b : Bool) (count : ℕ) → count ≤ counted_where b count
-counted_on true count = omega arith
-counted_on false count = omega arith
-
-counted_more : (b : Bool) (m n : ℕ) → suc m ≤ n → suc (counted_where b m) ≤ counted_where b n
-counted_more true m n more = omega (arith, more)
-counted_more false m n more = more
-
-counted_at : (log : List Entry) (p : ℕ) (entry : Entry) → slice_get log p ≡ Some entry → arrives entry ≡ true →
-    suc (count_among arrives (take p log)) ≤ count_among arrives log
-counted_at [] p entry at is = absurd (cc)
-counted_at (x ∷ log) zero entry at is =
-    let e : x ≡ entry = cc at in
-    subst (λ b. 1 ≤ counted_where b (count_among arrives log)) (sym (ap arrives e ∙ is)) (omega arith)
-counted_at (x ∷ log) (suc p) entry at is =
-    counted_more (arrives x) (count_among arrives (take p log)) (count_among arrives log) (counted_at log p entry at is)
-
 pub has_come : (conn p : ℕ) (config : Configuration) (log : List Entry) → IsJournal config log → OpensAt opens config log p conn →
     HasCome conn (state_after config log)
 has_come conn p config log journal opened =
-    let next = next_opened (arrives opened.0) (count_among arrives (take p log)) conn opened.2 in
-    let counted = counted_at log p opened.0 opened.1 next.0 in
-    let drawn : (state_after config log).drawn.conns ≡ count_among arrives log =
-    run_counts (empty config) log (empty_orderly config journal.within.settings.journal.1) journal.run
-    ∙ none_more (count_among arrives log) in
+    let test : List Entry → Entry → Bool = comes_after config in
+    let next = next_opened (test (take p log) opened.0) (count_behind test [] (take p log)) conn opened.2 in
+    let counted = counted_at test [] log p opened.0 opened.1 next.0 in
+    let drawn : (state_after config log).drawn.conns ≡ count_behind test [] log =
+    run_counts config [] log (empty_orderly config journal.within.settings.journal.1) journal.run
+    ∙ none_more (count_behind test [] log) in
     omega (arith, next.1, counted, drawn)
 
 pub begins : (conn : ℕ) (config : Configuration) (log : List Entry) (mine : List ℕ) → IsJournal config log →
@@ -399,7 +399,8 @@ pub begins : (conn : ℕ) (config : Configuration) (log : List Entry) (mine : Li
 begins conn config log mine journal owns none =
     let come = has_come conn owns.0 config log journal owns.2 in
     let all = begun conn (empty config) log (empty_orderly config journal.within.settings.journal.1) journal.run none in
-    let next = next_opened (arrives owns.2.0) (count_among arrives (take owns.0 log)) conn owns.2.2 in
+    let test : List Entry → Entry → Bool = comes_after config in
+    let next = next_opened (test (take owns.0 log) owns.2.0) (count_behind test [] (take owns.0 log)) conn owns.2.2 in
     record {
       come = come;
       open_yet = all.live (λ (early : conn ≤ 0). absurd (omega (arith, early, next.1))) come;

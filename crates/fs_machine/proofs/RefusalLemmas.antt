@@ -1,17 +1,18 @@
 -- Which entries are refused since the journal is full.
-use Rattle.std.proofs.Common.{◌≡◌, ◌≢◌, ℕ, ◌==◌, Bool, true, false, not, length, Option, None, Some, is_some, refl}
+use Rattle.std.proofs.Common.{◌≡◌, ◌≢◌, ℕ, ◌==◌, Bool, true, false, not, length, Option, None, Some, is_some, is_none, refl}
 use Rattle.fs_chan.specs.declared.due.Due.{Due}
 use Rattle.fs_chan.specs.declared.due.Due.TheVariants.{Now, At}
 use Rattle.fs_state.specs.Switch.{Switch, waiting_for, is_full_of_conns, at_moment, is_full}
 use Rattle.fs_machine.specs.declared.entry.Entry.{Entry}
 use Rattle.fs_machine.specs.declared.entry.Act.{Act}
-use Rattle.fs_machine.specs.declared.entry.Act.TheVariants.{Arrive, Command, Take, Close, Work, Job, Halt}
+use Rattle.fs_machine.specs.declared.entry.Act.TheVariants.{Arrive, Command, Take, Close, Dialed, Work, Job, Halt}
 use Rattle.fs_machine.specs.declared.entry.Closing.{Closing}
 use Rattle.fs_machine.specs.declared.entry.Closing.TheVariants.{EndOfInput, Sent, Failed}
 use Rattle.fs_machine.specs.declared.refusal.Refusal.{Refusal}
 use Rattle.fs_machine.specs.declared.refusal.Refusal.TheVariants as refusal
 use Rattle.fs_machine.specs.Connections.{phase_at}
 use Rattle.fs_machine.specs.Questions.{owed_to}
+use Rattle.fs_machine.specs.Controlling.{dial_at}
 use Rattle.fs_machine.specs.Due.{slot_due, job_due}
 use Rattle.fs_machine.specs.Step.{reads, is_closed, is_unsent, refusal_of, refused_where, refused_act, refused_close, seats_for_conns}
 use Rattle.fs_machine.specs.Step.{not_due, busy}
@@ -41,6 +42,9 @@ vacant cost limit is = cc
 
 many : (there cost limit : ℕ) → refusal.TooMany there ≢ refusal.JournalFull cost limit
 many there cost limit is = cc
+
+undue : (cost limit : ℕ) → refusal.NotDue None ≢ refusal.JournalFull cost limit
+undue cost limit is = cc
 
 unsent : (queued : ℕ) (owed : Bool) (cost limit : ℕ) → refusal.Unsent queued owed ≢ refusal.JournalFull cost limit
 unsent queued owed cost limit is = cc
@@ -74,6 +78,8 @@ not_acting (Take conn) s cost limit =
     (gone cost limit)
     (not_full (length (waiting_for s conn) == 0) refusal.Empty None cost limit (vacant cost limit) (nothing cost limit))
 not_acting (Close conn how) s cost limit = not_closing conn how s cost limit
+not_acting (Dialed slot linked) s cost limit =
+    not_full (is_none (dial_at s slot)) (refusal.NotDue None) None cost limit (undue cost limit) (nothing cost limit)
 not_acting (Work slot) s cost limit = not_yet (slot_due slot s) cost limit
 not_acting (Job number) s cost limit = not_yet (job_due number s) cost limit
 not_acting Halt s cost limit = not_full (is_some s.stopping) refusal.Gone None cost limit (gone cost limit) (nothing cost limit)

@@ -100,7 +100,7 @@ fifo_short argument =
     queued_short (apps.queue_name (word_of words)) (word_of (behind_word words)) (word_of (behind_word (behind_word words)))
 
 -- whichever name it has
-app_short : (answers evals sleeps hangs_up bridges parks transfers queues : Bool) (argument : Text) →
+app_short : (answers evals sleeps hangs_up bridges parks transfers queues controls : Bool) (argument : Text) →
     apps.IsShortApplication
     (if answers then app.Answer
     else (if evals then app.Eval
@@ -110,16 +110,18 @@ app_short : (answers evals sleeps hangs_up bridges parks transfers queues : Bool
     else (if parks then app.Park
     else (if transfers then apps.transfer_to (target_in (without_spaces argument))
     else (if queues then apps.fifo_application argument
-    else app.Unknown))))))))
-app_short true evals sleeps hangs_up bridges parks transfers queues argument = tt
-app_short false true sleeps hangs_up bridges parks transfers queues argument = tt
-app_short false false true hangs_up bridges parks transfers queues argument = tt
-app_short false false false true bridges parks transfers queues argument = tt
-app_short false false false false true parks transfers queues argument = tt
-app_short false false false false false true transfers queues argument = tt
-app_short false false false false false false true queues argument = target_short _ (words_short (without_spaces argument))
-app_short false false false false false false false true argument = fifo_short argument
-app_short false false false false false false false false argument = tt
+    else (if controls then app.Socket argument
+    else app.Unknown)))))))))
+app_short true evals sleeps hangs_up bridges parks transfers queues controls argument = tt
+app_short false true sleeps hangs_up bridges parks transfers queues controls argument = tt
+app_short false false true hangs_up bridges parks transfers queues controls argument = tt
+app_short false false false true bridges parks transfers queues controls argument = tt
+app_short false false false false true parks transfers queues controls argument = tt
+app_short false false false false false true transfers queues controls argument = tt
+app_short false false false false false false true queues controls argument = target_short _ (words_short (without_spaces argument))
+app_short false false false false false false false true controls argument = fifo_short argument
+app_short false false false false false false false false true argument = tt
+app_short false false false false false false false false false argument = tt
 
 assigned_short : (assignment : Option Assignment) (argument : Text) (other : Application) →
     apps.IsShortApplication other → apps.IsShortApplication (apps.assigned_or assignment argument other)
@@ -128,7 +130,7 @@ assigned_short None argument other short = short
 
 pub application_short : (name argument : Text) → apps.IsShortApplication (application_of name argument)
 unfolding application_of
-application_short name argument = assigned_short (assignment_named name) argument _ (app_short _ _ _ _ _ _ _ _ argument)
+application_short name argument = assigned_short (assignment_named name) argument _ (app_short _ _ _ _ _ _ _ _ _ argument)
 
 -- ---- the winner that a command names
 

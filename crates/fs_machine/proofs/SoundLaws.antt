@@ -27,6 +27,7 @@ use Rattle.fs_machine.proofs.AwaitedLemmas.{hung_await}
 use Rattle.fs_machine.proofs.StandingLemmas.{Standing, at_its_moment, number_left, standing_run}
 use Rattle.fs_machine.proofs.SoundLemmas.{partners_agree, live_has_partner, profiles_are_short, identifiers_differ, run_has_legs}
 use Rattle.fs_machine.proofs.SoundLemmas.{run_legs_undecided, failures_are_told, run_rows_agree, run_waits_bridged, owners_wait}
+use Rattle.fs_machine.proofs.SoundLemmas.{run_holders_agree}
 use Rattle.fs_machine.proofs.OwedLaws.{run_is_owed}
 use Rattle.fs_machine.proofs.OutboxMoves.{events_are_few}
 use Rattle.fs_machine.proofs.StillMoves.{stopped_is_over, is_still}
@@ -45,6 +46,7 @@ sound_run config entries within run = record {
   rows = run_rows_agree config entries within run;
   bridged = run_waits_bridged config entries within run;
   owners = owners_wait config entries within run;
+  controllers = run_holders_agree config entries within run;
   owed = run_is_owed config entries within run;
   events = events_are_few config entries within run;
   still = λ stops. is_still (run_from (empty config) entries) (stopped_is_over config entries run stops);

@@ -1,5 +1,6 @@
 -- In every run live channels have partners, which agree, the texts of channels keep their limits, identifiers differ, legs are channels,
--- an origination that fails is told why, bridges and channels agree, and whoever dials waits for what it owns.
+-- an origination that fails is told why, bridges and channels agree, so do channels and the connections that hold them, and whoever dials
+-- waits for what it owns.
 use Rattle.std.proofs.Common.{◌≡◌, ℕ, ◌+◌, ◌-◌, ◌*◌, ◌<◌, ◌≤◌, ◌^◌, true, IsSome, List, [], ◌∷◌, length, Option, None, Some}
 use Rattle.std.proofs.Common.{is_some, option_and_then, option_map, refl, sym, ap, subst, ◌∙◌, arith, ◌⊎◌, inl, inr}
 use Rattle.std.proofs.lemmas.Bool.{false≢true, ltb-false}
@@ -27,10 +28,12 @@ use Rattle.fs_machine.specs.Step.{refusal_of, act_done, step}
 use Rattle.fs_machine.specs.Runs.{run_from, IsRunFrom}
 use Rattle.fs_machine.specs.Sound.{HasPartner, PartnersAgree, HasLivePartner, LiveHasPartner, ProfilesAreShort, IdentifiersDiffer}
 use Rattle.fs_machine.specs.Sound.{LegsAreChannels, LegsAreUndecided, FailuresAreTold, IsOwnedBy, RowsAgree, BridgedWait, OwnersWait}
+use Rattle.fs_machine.specs.Sound.{HoldersAgree}
 use Rattle.fs_machine.proofs.Kept.{IsApt}
 use Rattle.fs_machine.proofs.TieLemmas.{lives_as, named_in, Ties}
 use Rattle.fs_machine.proofs.FrameLemmas.{some_cost}
-use Rattle.fs_machine.proofs.OrderLemmas.{acted_cost, acted_settings, not_full}
+use Rattle.fs_machine.proofs.OrderLemmas.{acted_cost, acted_settings, not_full, Orderly, room_left, entry_orderly, empty_orderly}
+use Rattle.fs_machine.proofs.WaitingLemmas.{number_new}
 use Rattle.fs_machine.proofs.FramesLaws.{settings_step}
 use Rattle.fs_machine.proofs.ActWalk.{acted_kept}
 use Rattle.fs_chan.specs.Bridging.{awaited_by}
@@ -51,6 +54,7 @@ use Rattle.fs_machine.proofs.LegHangups.{legs_are_channels}
 use Rattle.fs_machine.proofs.CauseMoves.{ToldIn, AllTold, Told, told_there, with_causes, told_moves}
 use Rattle.fs_machine.proofs.WinnerMoves.{ShortIn, WinnersAreShort, Winners, winners_moves}
 use Rattle.fs_machine.proofs.ChannelMoves.{FitsIn, AllFit, Fit, fit_there, fit_moves}
+use Rattle.fs_machine.proofs.ControlMoves.{Holds, IsNew, Held, held_moves, nobody_holds, holders_agree}
 
 -- ---- partners
 
@@ -194,6 +198,37 @@ owners_wait config entries within run =
     let h : Standing (run_from (empty config) entries) = standing_run config entries within run in
     let owners : Owners (run_from (empty config) entries) = owners_of (run_from (empty config) entries) h.owned in
     record { wait = owners.wait; own = awaited_owned (run_from (empty config) entries) h.waits }
+
+-- ---- channels and the connections that hold them
+
+-- where an entry is not refused a connection that comes has a number of its own
+number_open : (s : Switch) (entry : Entry) → refusal_of s entry ≡ None → Orderly s → IsNew s.conns s.drawn.conns
+number_open s entry accepts orderly = record {
+  distinct = orderly.ordered.distinct;
+  fresh = number_new s orderly.ordered (room_left s orderly (not_full s entry accepts));
+}
+
+step_holds : (s : Switch) (entry : Entry) → IsNew s.conns s.drawn.conns → Holds s.channels s.conns →
+    Holds (step s entry).state.channels (step s entry).state.conns
+unfolding step
+step_holds s entry new h =
+    let now : Switch = at_moment entry.moment s in
+    let acted : Held (Some 1) (act_done entry.act now).state = acted_kept now Held (held_moves now) entry.act (h, new) in
+    acted.0
+
+run_holds : (s : Switch) (entries : List Entry) → IsRunFrom s entries → Orderly s → Holds s.channels s.conns →
+    Holds (run_from s entries).channels (run_from s entries).conns
+run_holds s [] run orderly h = h
+run_holds s (entry ∷ entries) run orderly h =
+    run_holds (step s entry).state entries run.1 (entry_orderly s entry orderly run.0)
+    (step_holds s entry (number_open s entry run.0 orderly) h)
+
+pub run_holders_agree : (config : Configuration) (entries : List Entry) → IsWithin config → IsRunFrom (empty config) entries →
+    HoldersAgree (run_from (empty config) entries)
+run_holders_agree config entries within run =
+    holders_agree (run_from (empty config) entries)
+    (run_holds (empty config) entries run (empty_orderly config within.settings.journal.1)
+    (nobody_holds (empty config).channels (empty config).conns (λ slot. nothing_held Chan (config.settings.max_sessions + 1) slot)))
 
 -- ---- identifiers
 

@@ -3,6 +3,7 @@ use Rattle.std.proofs.Common.{◌≡◌, ℕ, ◌==◌, nat_lt, Bool, true, fals
 use Rattle.std.proofs.Common.{is_none, refl, sym, ap, subst, ◌∙◌, true≢false}
 use Rattle.std.specs.Prelude.{is_some}
 use Rattle.std.proofs.lemmas.Bool.{cases_eq, false≢true}
+use Rattle.std.proofs.lemmas.Option.{none-some}
 use Rattle.fs_text.specs.declared.states.State.{State}
 use Rattle.fs_text.specs.declared.states.State.TheVariants.{CsNew, CsInit, CsRouting, CsExecute, CsPark, CsConsumeMedia, CsExchangeMedia}
 use Rattle.fs_text.specs.declared.states.State.TheVariants.{CsHangup, CsReporting}
@@ -15,9 +16,10 @@ use Rattle.fs_chan.specs.declared.chan.Chan.{Chan}
 use Rattle.fs_chan.specs.declared.peer.Direction.{Direction}
 use Rattle.fs_chan.specs.declared.peer.Direction.TheVariants.{Inbound, Outbound}
 use Rattle.fs_chan.specs.declared.wait.Wait.{Wait}
-use Rattle.fs_chan.specs.declared.wait.Wait.TheVariants.{Ready, Bridged, Legs}
+use Rattle.fs_chan.specs.declared.wait.Wait.TheVariants.{Ready, Bridged, Legs, Dial, Socket}
 use Rattle.fs_chan.specs.Changes.{is_live, with_answer_place, wait_at_rest, HasShortFields}
 use Rattle.fs_chan.specs.Bridging.{awaited_in, with_disposition}
+use Rattle.fs_chan.specs.Controlling.{awaiting_dial, held_by, let_go_in, let_go, dial_in, dial_of}
 use Rattle.fs_chan.specs.Exports.{with_set}
 use Rattle.fs_chan.specs.Work as chan
 use Rattle.fs_text.specs.Texts.{Text}
@@ -34,10 +36,12 @@ use Rattle.fs_state.specs.Switch.{Switch, chan_at, with_chan, orig_of, with_even
 use Rattle.fs_state.specs.Moves.{plain_event, with_leaving_event, with_coming_event, with_state_events, with_changed_chan_from}
 use Rattle.fs_state.specs.Moves.{with_changed_chan, after_move_from, after_move, with_running, orig_changed_from, orig_changed, leg_changed}
 use Rattle.fs_state.specs.Moves.{application_event, its_leg_changed, after_answer_from, after_one_answer, partner_at, for_slot, after_answer}
+use Rattle.fs_machine.specs.Controlling.{names_target}
 use Rattle.fs_machine.specs.Work.{first_state, with_variables}
 use Rattle.fs_machine.specs.Sound.{is_idle}
 use Rattle.fs_machine.proofs.LimitLemmas.{AreLimited, cause_key, with_set_limited, with_set_stays}
-use Rattle.fs_machine.proofs.Kept.{Stage, hold_in, Links, links_of, IsApt, IsAtWork, KeepsVars, Stays, TellsNoBridge}
+use Rattle.fs_machine.proofs.Kept.{Stage, hold_in, Links, links_of, IsApt, IsAtWork, KeepsVars, Keeps, IsDialable, KeepsHold, Stays}
+use Rattle.fs_machine.proofs.Kept.{TellsNoBridge}
 
 -- ---- states that live
 
@@ -155,15 +159,59 @@ freed c works =
     ap (λ (hold : Wait). record { uuid = c.uuid; partner = c.partner; peer = c.peer; leg_of = c.leg_of; hold = hold }) (sym works.free)
 
 -- it goes on, or waits for something that does not hold it
-pub work_stays : {b : Stage} (c d : Chan) → IsAtWork c → links_of d ≡ free_links c → is_live d ≡ true →
-    (HasShortFields c.profile → HasShortFields d.profile) → d.vars ≡ c.vars → Stays b c d
-work_stays c d works links live short vars = record {
+pub work_keeps : {b : Stage} (c d : Chan) → IsAtWork c → links_of d ≡ free_links c → is_live d ≡ true →
+    (HasShortFields c.profile → HasShortFields d.profile) → d.vars ≡ c.vars → Keeps b c d
+work_keeps c d works links live short vars = record {
   links = links ∙ freed c works;
   live = live ∙ sym works.live;
   short = short;
   apt = nothing_else c d works (ap (λ (l : Links). l.leg_of) links) (ap (λ (l : Links). l.peer) links);
   vars = same_vars c.vars d.vars vars;
 }
+
+pub work_stays : {b : Stage} (c d : Chan) → IsAtWork c → links_of d ≡ free_links c → is_live d ≡ true →
+    (HasShortFields c.profile → HasShortFields d.profile) → d.vars ≡ c.vars → KeepsHold c d → Stays b c d
+work_stays c d works links live short vars holder = record { keeps = work_keeps c d works links live short vars; holder = holder }
+
+-- ---- connections that hold channels
+
+-- it is held as it was, and waits for what it waited for
+pub same_holder : {c d : Chan} → d.socket ≡ c.socket → d.wait ≡ c.wait → KeepsHold c d
+same_holder {c} {d} socket wait = record { socket = inl socket; dials = subst IsDialable (sym wait) }
+
+-- at rest it waits for no controller
+pub rest_dialable : (socket : Option ℕ) (state : State) → IsDialable (wait_at_rest socket state)
+rest_dialable (Some conn) state = tt
+rest_dialable None CsPark = tt
+rest_dialable None _ = tt
+
+-- it is held as it was, and rests
+pub rest_holder : {c d : Chan} (socket : Option ℕ) (state : State) → (d.socket ≡ c.socket) ⊎ (d.socket ≡ None) →
+    d.wait ≡ wait_at_rest socket state → KeepsHold c d
+rest_holder socket state held wait = record { socket = held; dials = λ h. subst IsDialable (sym wait) (rest_dialable socket state) }
+
+-- whoever waits for a controller is at work
+pub dials_at_work : (c : Chan) (text : Text) → dial_of c ≡ Some text → IsAtWork c
+dials_at_work c text is = by c.state c.wait refl refl is
+  where
+    at : (state : State) → c.state ≡ state → Lives state → is_idle state ≡ false → hold_in c.wait ≡ Ready → IsAtWork c
+    at state same lives busy free = record { live = live_by c state true same lives; free = free; busy = ap is_idle same ∙ busy }
+
+    by : (state : State) (wait : Wait) → c.state ≡ state → c.wait ≡ wait → dial_in state wait ≡ Some text → IsAtWork c
+    by CsExecute (Dial one) state wait waits = at CsExecute state execute_lives refl (ap hold_in wait)
+    by CsPark (Dial one) state wait waits = at CsPark state park_lives refl (ap hold_in wait)
+    by _ _ state wait waits = absurd (none-some text waits)
+
+-- a connection takes hold of it
+pub held_keeps : {b : Stage} (conn : ℕ) (c : Chan) (text : Text) → dial_of c ≡ Some text → Keeps b c (held_by conn c)
+held_keeps conn c text waits =
+    let works : IsAtWork c = dials_at_work c text waits in
+    work_keeps c (held_by conn c) works refl works.live (λ short. short) refl
+
+-- it waits for a controller that a text names
+pub dials_stays : {b : Stage} (text : Text) (c : Chan) → names_target text ≡ true → IsAtWork c → Stays b c (awaiting_dial text c)
+dials_stays text c names works =
+    work_stays c (awaiting_dial text c) works refl works.live (λ short. short) refl (record { socket = inl refl; dials = λ h. names })
 
 -- what it waits for at rest does not hold it
 pub rest_free : (socket : Option ℕ) (state : State) → hold_in (wait_at_rest socket state) ≡ Ready
@@ -187,6 +235,7 @@ pub record Quiet (old new : Chan) : Type 0 where
   pub direction : new.direction ≡ old.direction
   pub state : new.state ≡ old.state
   pub profile : new.profile ≡ old.profile
+  pub holder : KeepsHold old new
 
 abbrev pub AllQuiet : (Chan → Chan) → Type 0
 AllQuiet change = (c : Chan) → Quiet c (change c)
@@ -197,17 +246,20 @@ AllKeep b change = (c : Chan) → KeepsVars b c.vars (change c).vars
 
 pub quiet_stays : {b : Stage} (c d : Chan) → Quiet c d → KeepsVars b c.vars d.vars → Stays b c d
 quiet_stays c d quiet vars = record {
-  links = quiet.links;
-  live = ap (λ (state : State). nat_lt (state_number state) (state_number CsHangup)) quiet.state;
-  short = subst HasShortFields (sym quiet.profile);
-  apt = λ apt. record {
-    outbound = λ some. quiet.direction ∙ apt.outbound (ap is_some (sym leg) ∙ some);
-    idle = λ some. ap is_idle quiet.state ∙ apt.idle (ap is_some (sym leg) ∙ some);
-    free = λ some. same_awaited c.wait d.wait (ap (λ (l : Links). l.hold) quiet.links) ∙ apt.free (ap is_some (sym leg) ∙ some);
-    alone = λ some. leg ∙ apt.alone (ap is_some (sym peer) ∙ some);
-    held = λ some. ap (λ (l : Links). l.hold) quiet.links ∙ apt.held (ap is_some (sym peer) ∙ some);
+  keeps = record {
+    links = quiet.links;
+    live = ap (λ (state : State). nat_lt (state_number state) (state_number CsHangup)) quiet.state;
+    short = subst HasShortFields (sym quiet.profile);
+    apt = λ apt. record {
+      outbound = λ some. quiet.direction ∙ apt.outbound (ap is_some (sym leg) ∙ some);
+      idle = λ some. ap is_idle quiet.state ∙ apt.idle (ap is_some (sym leg) ∙ some);
+      free = λ some. same_awaited c.wait d.wait (ap (λ (l : Links). l.hold) quiet.links) ∙ apt.free (ap is_some (sym leg) ∙ some);
+      alone = λ some. leg ∙ apt.alone (ap is_some (sym peer) ∙ some);
+      held = λ some. ap (λ (l : Links). l.hold) quiet.links ∙ apt.held (ap is_some (sym peer) ∙ some);
+    };
+    vars = vars;
   };
-  vars = vars;
+  holder = quiet.holder;
 }
   where
     leg : d.leg_of ≡ c.leg_of
@@ -215,6 +267,39 @@ quiet_stays c d quiet vars = record {
 
     peer : d.peer ≡ c.peer
     peer = ap (λ (l : Links). l.peer) quiet.links
+
+-- it is let go
+pub let_go_stays : {b : Stage} (c : Chan) → Stays b c (let_go c)
+let_go_stays {b} c = by c.wait refl
+  where
+    by : (wait : Wait) → c.wait ≡ wait → Stays b c (let_go_in wait c)
+    by (Socket conn) is = record {
+      keeps = record {
+        links =
+            ap (λ (hold : Wait). record { uuid = c.uuid; partner = c.partner; peer = c.peer; leg_of = c.leg_of; hold = hold })
+            (rest_free None c.state ∙ sym (ap hold_in is));
+        live = refl;
+        short = λ short. short;
+        apt = λ apt. record {
+          outbound = apt.outbound;
+          idle = apt.idle;
+          free = λ some. same_awaited c.wait (wait_at_rest None c.state) (rest_free None c.state ∙ sym (ap hold_in is)) ∙ apt.free some;
+          alone = apt.alone;
+          held = λ some. rest_free None c.state ∙ sym (ap hold_in is) ∙ apt.held some;
+        };
+        vars = same_vars c.vars c.vars refl;
+      };
+      holder = rest_holder None c.state (inr refl) refl;
+    }
+    by _ is =
+        quiet_stays c (record c { socket = None })
+        (record {
+          links = refl;
+          direction = refl;
+          state = refl;
+          profile = refl;
+          holder = record { socket = inr refl; dials = λ h. h };
+        }) (same_vars c.vars c.vars refl)
 
 pub quiet_works : (c d : Chan) → Quiet c d → IsAtWork c → IsAtWork d
 quiet_works c d quiet works = record {
@@ -224,11 +309,11 @@ quiet_works c d quiet works = record {
 }
 
 without_first_quiet : (messages : List Action) → AllQuiet (chan.without_first messages)
-without_first_quiet [] c = record { links = refl; direction = refl; state = refl; profile = refl }
-without_first_quiet (message ∷ messages) c = record { links = refl; direction = refl; state = refl; profile = refl }
+without_first_quiet [] c = record { links = refl; direction = refl; state = refl; profile = refl; holder = same_holder refl refl }
+without_first_quiet (message ∷ messages) c = record { links = refl; direction = refl; state = refl; profile = refl; holder = same_holder refl refl }
 
 after_taking_quiet : (line : List Action) → AllQuiet (chan.after_taking line)
-after_taking_quiet [] c = record { links = refl; direction = refl; state = refl; profile = refl }
+after_taking_quiet [] c = record { links = refl; direction = refl; state = refl; profile = refl; holder = same_holder refl refl }
 after_taking_quiet (next ∷ later) c = without_first_quiet c.messages c
 
 without_first_vars : (messages : List Action) (c : Chan) → (chan.without_first messages c).vars ≡ c.vars
@@ -246,19 +331,19 @@ pub after_next_quiet : AllQuiet chan.after_next
 after_next_quiet c = after_taking_quiet (chan.pending_of c) c
 
 pub running_quiet : (action : Action) → AllQuiet (with_running action)
-running_quiet action c = record { links = refl; direction = refl; state = refl; profile = refl }
+running_quiet action c = record { links = refl; direction = refl; state = refl; profile = refl; holder = same_holder refl refl }
 
 pub variables_quiet : (vars : Variables) → AllQuiet (with_variables vars)
-variables_quiet vars c = record { links = refl; direction = refl; state = refl; profile = refl }
+variables_quiet vars c = record { links = refl; direction = refl; state = refl; profile = refl; holder = same_holder refl refl }
 
 pub assignment_quiet : (how : Assignment) (argument : Text) → AllQuiet (with_assignment how argument)
-assignment_quiet how argument c = record { links = refl; direction = refl; state = refl; profile = refl }
+assignment_quiet how argument c = record { links = refl; direction = refl; state = refl; profile = refl; holder = same_holder refl refl }
 
 pub answer_quiet : (seat : ℕ) → AllQuiet (with_answer_place seat)
-answer_quiet seat c = record { links = refl; direction = refl; state = refl; profile = refl }
+answer_quiet seat c = record { links = refl; direction = refl; state = refl; profile = refl; holder = same_holder refl refl }
 
 pub disposition_quiet : (text : Text) → AllQuiet (with_disposition text)
-disposition_quiet text c = record { links = refl; direction = refl; state = refl; profile = refl }
+disposition_quiet text c = record { links = refl; direction = refl; state = refl; profile = refl; holder = same_holder refl refl }
 
 -- ---- a slot whose channel is at work
 

@@ -1,8 +1,9 @@
 -- Once the switch has come to its end nothing goes on in it any more: what the entry leaves that brings the end, and what the entries do
 -- behind it.
 use Rattle.std.proofs.Common.{◌≡◌, ℕ, zero, suc, ◌++◌, Bool, true, false, List, [], ◌∷◌, length, Option, None, Some, IsSome, unwrap_or}
-use Rattle.std.proofs.Common.{◌⊎◌, inl, inr, nat_lt, not, refl, sym, ap, subst, ◌∙◌, true≢false}
+use Rattle.std.proofs.Common.{◌⊎◌, inl, inr, nat_lt, not, if◌then◌else◌, is_none, refl, sym, ap, subst, ◌∙◌, true≢false}
 use Rattle.std.specs.Prelude.{is_some}
+use Rattle.std.specs.Option.{option_and_then}
 use Rattle.std.proofs.lemmas.Bool.{cases_eq}
 use Rattle.std.proofs.lemmas.Option.{none-some, same_Some}
 use Rattle.fs_text.specs.Texts.{Text}
@@ -12,6 +13,7 @@ use Rattle.fs_text.specs.declared.states.State.TheVariants as states
 use Rattle.fs_text.specs.declared.event_names.EventName.TheVariants.{ChannelDestroy, ChannelState}
 use Rattle.fs_chan.specs.declared.chan.Chan.{Chan}
 use Rattle.fs_chan.specs.Changes.{is_live, in_state}
+use Rattle.fs_chan.specs.Controlling.{dial_of}
 use Rattle.fs_filter.specs.Subscriptions.{Subscription}
 use Rattle.fs_orig.specs.Changes.{with_answer}
 use Rattle.fs_orig.specs.declared.caller.Caller.{Caller}
@@ -60,16 +62,19 @@ use Rattle.fs_machine.specs.Attempts.{originate_begun, first_group, orig_begun}
 use Rattle.fs_machine.specs.Texts.{made_text, failed_text}
 use Rattle.fs_machine.specs.Jobs.{job_done, job_done_from}
 use Rattle.fs_machine.specs.Work.{after_work, after_work_from, after_work_in}
-use Rattle.fs_machine.specs.Step.{reads, refusal_of, refused_act, refused_where, refused_command, act_done, after_close, step}
+use Rattle.fs_machine.specs.Controlling.{dial_at, is_left, conn_behind, after_letting_go, after_leavings}
+use Rattle.fs_machine.specs.Step.{reads, refusal_of, refused_act, refused_where, refused_command, acted, act_done, after_close, step}
 use Rattle.fs_machine.specs.Runs.{run_from, IsRunFrom}
 use Rattle.fs_machine.specs.Sound.{IsStill}
 use Rattle.fs_machine.proofs.Kept.{Stage, Fact, AreDead, Stays, raced, KeptByTouches, KeptByCalls, KeptByJobs, KeptByDials, KeptByApi}
 use Rattle.fs_machine.proofs.Kept.{KeptByCommands, KeptByVisits, KeptByMoves}
-use Rattle.fs_machine.proofs.StayLemmas.{moved_there}
+use Rattle.fs_machine.proofs.StayLemmas.{moved_there, dials_at_work}
 use Rattle.fs_machine.proofs.StopLemmas.{released_held}
+use Rattle.fs_machine.proofs.ControlLemmas.{behind_held}
 use Rattle.fs_machine.proofs.OrderLemmas.{none_refused, not_refused}
 use Rattle.fs_machine.proofs.FrontLemmas.{conn_unread}
 use Rattle.fs_machine.proofs.RestLemmas.{Rest, rest_of, calls_by_rest, dials_by_rest, group_made_rest, joined_rest, won_rest}
+use Rattle.fs_machine.proofs.Walk.{let_go_kept}
 use Rattle.fs_machine.proofs.ActWalk.{acted_kept}
 use Rattle.fs_machine.proofs.RunLemmas.{run_behind, runs_both}
 
@@ -164,6 +169,24 @@ orig_over change number s h = by (orig_of s number)
     by None = h
     by (Some o) = record { stopping = h.stopping; channels = h.channels; jobs = h.jobs; conns = h.conns }
 
+-- nobody reads who parts because its channel has left
+left_over : (s : Switch) → IsOver s → IsOver (after_leavings s)
+left_over s h = record {
+  stopping = h.stopping;
+  channels = h.channels;
+  jobs = h.jobs;
+  conns = λ seat. subst ReadsNone (sym (behind_held s s.conns seat)) (by (held_in s.conns seat) (h.conns seat));
+}
+  where
+    of : (row : Numbered Conn) (left : Bool) → ReadsNone (Some row) →
+        ReadsNone (Some (if left then record { number = row.number; held = parted parting.ChannelLeft row.held } else row))
+    of row true k = refl
+    of row false k = k
+
+    by : (held : Option (Numbered Conn)) → ReadsNone held → ReadsNone (conn_behind s held)
+    by None k = tt
+    by (Some row) k = of row (is_left s row) k
+
 -- ---- an entry in which the end may come
 
 -- Before anything has ended it the switch goes on. Behind that it goes on, or it is over.
@@ -197,7 +220,7 @@ touches_still = record {
   globals = λ globals {b = b} {s = s} h. still_by b s (record s { globals = globals }) refl
       (λ over. record { stopping = over.stopping; channels = over.channels; jobs = over.jobs; conns = over.conns }) h;
   changed = λ slot old new {b = b} {s = s} there stays h. still_by b s (with_chan slot (Some new) s) refl
-      (λ over. put_over slot new s (stays.live ∙ over.channels slot old there) over) h;
+      (λ over. put_over slot new s (stays.keeps.live ∙ over.channels slot old there) over) h;
   answers = λ seat slot number {b = b} {s = s} h.
       let change : Orig → Orig = leg_changed (λ position. with_answer position seat) slot in
       still_by b s (orig_changed change number s) (orig_stopping change number s) (orig_over change number s) h;
@@ -269,6 +292,7 @@ api_still by = record {
   draws = λ h. inl h;
   sleeps = λ until {s = s} may room h. begun_going by (Sleep until) s ∙ h;
   originates = λ groups winner caller timeout {s = s} may are short room h. originated_going by groups winner caller timeout s ∙ h;
+  leavings = λ {n = n} {s = s} h. still_by (Some n) s (after_leavings s) refl (left_over s) h;
   ends = λ reply notice {s = s} dead h. inr (over_at_end reply notice s dead);
 }
 
@@ -299,7 +323,7 @@ commands_still conn = record {
       (λ over. record { stopping = over.stopping; channels = over.channels; jobs = over.jobs; conns = over.conns }) h;
   asked = λ change {n = n} {s = s} h. conn_still (Some n) (with_subs_changed change) (λ c none. none) conn s h;
   admitted = λ {n = n} {s = s} fresh h. admitted_still n conn s fresh h;
-  parted = λ why {n = n} {s = s} leaves h. conn_still (Some n) (parted why) (λ c none. refl) conn s h;
+  parted = λ why {n = n} {s = s} leaves was h. conn_still (Some n) (parted why) (λ c none. refl) conn s h;
   backgrounds = λ given command {s = s} room h. inl (background_going given command s ∙ h);
 }
 
@@ -312,8 +336,9 @@ still_moves before = record {
   visits = record {
     arrived = λ h. h;
     taken = λ conn h. h;
-    silent = λ conn {s = s} h. same_stopping (parted parting.EndOfInput) conn s ∙ h;
-    left = λ conn h. h;
+    holds = λ slot c text there waits room h. h;
+    silent = λ conn {s = s} was h. same_stopping (parted parting.EndOfInput) conn s ∙ h;
+    left = λ conn was h. h;
     halted = λ reply notice {s = s} dead h. inr (over_at_end reply notice s dead);
   };
 }
@@ -403,42 +428,99 @@ work_remains slot s h = by (chan_at s slot) refl
     by None is = itself s h
     by (Some c) is = in_its c.state c is (h.channels slot c is)
 
-gone_remains : (conn : ℕ) (s : Switch) → IsOver s → Remains s (without_conn conn s)
-gone_remains conn s h =
-    remains_by s (without_conn conn s)
-    (record {
-      stopping = h.stopping;
-      channels = h.channels;
-      jobs = h.jobs;
-      conns = each_put_at ReadsNone s.conns None (seat_of s.conns conn) h.conns tt;
-    })
-    refl refl
+gone_remains : (conn : ℕ) (s t : Switch) → Remains s t → Remains s (without_conn conn t)
+gone_remains conn s t h = record {
+  over = record {
+    stopping = h.over.stopping;
+    channels = h.over.channels;
+    jobs = h.over.jobs;
+    conns = each_put_at ReadsNone t.conns None (seat_of t.conns conn) h.over.conns tt;
+  };
+  stopping = h.stopping;
+  empty = h.empty;
+}
+
+-- what happens to a channel that others do not see fills no slot
+touches_remain : (s : Switch) → KeptByTouches (λ b t. Remains s t)
+touches_remain s = record {
+  told = λ event {s = t} plain h. told_remains s event t h;
+  globals = λ globals {s = t} h. record {
+    over = record { stopping = h.over.stopping; channels = h.over.channels; jobs = h.over.jobs; conns = h.over.conns };
+    stopping = h.stopping;
+    empty = h.empty;
+  };
+  changed = λ slot old new {s = t} there stays h.
+      put_remains s t slot old (Some new) there (put_over slot new t (stays.keeps.live ∙ h.over.channels slot old there) h.over) h;
+  answers = λ seat slot number {s = t} h. changed (leg_changed (λ position. with_answer position seat) slot) number t h;
+}
+  where
+    changed : (change : Orig → Orig) (number : ℕ) (t : Switch) → Remains s t → Remains s (orig_changed change number t)
+    changed change number t h = by (orig_of t number)
+      where
+        by : (found : Option Orig) → Remains s (orig_changed_from change number found t)
+        by None = h
+        by (Some o) = record {
+          over = record { stopping = h.over.stopping; channels = h.over.channels; jobs = h.over.jobs; conns = h.over.conns };
+          stopping = h.stopping;
+          empty = h.empty;
+        }
+
+-- so a connection may let its channel go
+freed_remains : (conn : ℕ) (s : Switch) → IsOver s → Remains s (after_letting_go conn s)
+freed_remains conn s h = let_go_kept (λ b t. Remains s t) (touches_remain s) conn {b = None} {s = s} (itself s h)
 
 close_remains : (how : Closing) (conn : ℕ) (s : Switch) → IsOver s → Remains s (after_close how conn s)
 close_remains closing.EndOfInput conn s h =
-    remains_by s (conn_changed (parted parting.EndOfInput) conn s) (changed_over (parted parting.EndOfInput) (λ c none. refl) conn s h)
-    (same_stopping (parted parting.EndOfInput) conn s)
-    (conn_unread (λ (t : Switch). t.channels) (λ conns t. refl) (parted parting.EndOfInput) conn s)
-close_remains closing.Sent conn s h = gone_remains conn s h
-close_remains closing.Failed conn s h = gone_remains conn s h
+    let t : Switch = after_letting_go conn s in
+    let k : Remains s t = freed_remains conn s h in
+    let channels : (conn_changed (parted parting.EndOfInput) conn t).channels ≡ t.channels =
+    conn_unread (λ (t : Switch). t.channels) (λ conns t. refl) (parted parting.EndOfInput) conn t in
+    record {
+      over = changed_over (parted parting.EndOfInput) (λ c none. refl) conn t k.over;
+      stopping = same_stopping (parted parting.EndOfInput) conn t ∙ k.stopping;
+      empty = λ slot none. ap (λ channels. held_in channels slot) channels ∙ k.empty slot none;
+    }
+close_remains closing.Sent conn s h = gone_remains conn s (after_letting_go conn s) (freed_remains conn s h)
+close_remains closing.Failed conn s h = gone_remains conn s (after_letting_go conn s) (freed_remains conn s h)
 
--- no job is there, and nobody reads a command, comes, or stops the switch once more
-act_remains : (a : Act) (s : Switch) → refused_act a s ≡ None → IsOver s → Remains s (act_done a s).state
+-- no channel waits for a controller, for none lives
+none_dials : (s : Switch) → IsOver s → (slot : ℕ) → is_none (dial_at s slot) ≡ false → ⊥
+none_dials s h slot some = by (chan_at s slot) refl
+  where
+    its : (c : Chan) → chan_at s slot ≡ Some c → (text : Option Text) → dial_of c ≡ text → ⊥
+    its c there None is =
+        true≢false (sym (ap is_none (ap (option_and_then dial_of) there ∙ is)) ∙ some)
+    its c there (Some text) is = true≢false (sym (dials_at_work c text is).live ∙ h.channels slot c there)
+
+    by : (found : Option Chan) → chan_at s slot ≡ found → ⊥
+    by None is = true≢false (sym (ap is_none (ap (option_and_then dial_of) is)) ∙ some)
+    by (Some c) is = its c is (dial_of c) refl
+
+-- no job is there, and nobody reads a command, comes, is dialed, or stops the switch once more
+alone_remains : (a : Act) (s : Switch) → refused_act a s ≡ None → IsOver s → Remains s (acted a s).state
 unfolding job_done
-act_remains act.Arrive s none h = absurd (true≢false (sym h.stopping ∙ (none_refused (is_some s.stopping) refusal.Gone _ none).0))
-act_remains act.Halt s none h = absurd (true≢false (sym h.stopping ∙ (none_refused (is_some s.stopping) refusal.Gone _ none).0))
-act_remains (act.Command conn block) s none h =
+alone_remains act.Arrive s none h = absurd (true≢false (sym h.stopping ∙ (none_refused (is_some s.stopping) refusal.Gone _ none).0))
+alone_remains act.Halt s none h = absurd (true≢false (sym h.stopping ∙ (none_refused (is_some s.stopping) refusal.Gone _ none).0))
+alone_remains (act.Command conn block) s none h =
     absurd (true≢false (sym (ap not (reads_none s h conn)) ∙ (none_refused (not (reads (phase_at s conn))) refusal.Gone _ none).0))
-act_remains (act.Take conn) s none h =
-    remains_by s (act_done (act.Take conn) s).state
+alone_remains (act.Take conn) s none h =
+    remains_by s (acted (act.Take conn) s).state
     (record { stopping = h.stopping; channels = h.channels; jobs = h.jobs; conns = h.conns }) refl refl
-act_remains (act.Close conn how) s none h = close_remains how conn s h
-act_remains (act.Work slot) s none h = work_remains slot s h
-act_remains (act.Job number) s none h = by (job_of s number) refl
+alone_remains (act.Close conn how) s none h = close_remains how conn s h
+alone_remains (act.Dialed slot linked) s none h =
+    absurd (none_dials s h slot (none_refused (is_none (dial_at s slot)) (refusal.NotDue None) _ none).0)
+alone_remains (act.Work slot) s none h = work_remains slot s h
+alone_remains (act.Job number) s none h = by (job_of s number) refl
   where
     by : (found : Option Job) → job_of s number ≡ found → Remains s (job_done_from number found s)
     by None is = itself s h
     by (Some job) is = absurd (no_job s h number job is)
+
+-- nor does anybody read who parts behind it
+act_remains : (a : Act) (s : Switch) → refused_act a s ≡ None → IsOver s → Remains s (act_done a s).state
+act_remains a s none h =
+    let k : Remains s (acted a s).state = alone_remains a s none h in
+    record { over = left_over (acted a s).state k.over; stopping = k.stopping; empty = k.empty }
 
 entry_remains : (s : Switch) (entry : Entry) → refusal_of s entry ≡ None → IsOver s → Remains s (step s entry).state
 unfolding step

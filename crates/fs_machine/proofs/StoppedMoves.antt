@@ -1,6 +1,6 @@
 -- A connection parts for the end of the switch only where the switch comes to its end, and a switch in which one reads commands goes on.
-use Rattle.std.proofs.Common.{◌≡◌, ℕ, Bool, true, false, List, [], ◌∷◌, Option, None, Some, option_and_then, unwrap_or, refl, sym, ap, subst, ◌∙◌}
-use Rattle.std.proofs.Common.{true≢false}
+use Rattle.std.proofs.Common.{◌≡◌, ℕ, Bool, true, false, if◌then◌else◌, List, [], ◌∷◌, Option, None, Some, option_and_then, unwrap_or}
+use Rattle.std.proofs.Common.{refl, sym, ap, subst, ◌∙◌, true≢false}
 use Rattle.std.specs.Prelude.{is_some}
 use Rattle.std.proofs.lemmas.Option.{none-some}
 use Rattle.fs_text.specs.Texts.{Text}
@@ -27,6 +27,7 @@ use Rattle.fs_state.specs.Switch.{Switch, with_new_conn, empty, conn_of, with_ne
 use Rattle.fs_machine.specs.declared.entry.Entry.{Entry}
 use Rattle.fs_machine.specs.declared.owing.Giver.{Giver}
 use Rattle.fs_machine.specs.declared.owing.Giver.TheVariants as giver
+use Rattle.fs_machine.specs.Controlling.{is_left, conn_behind, controller, after_leavings}
 use Rattle.fs_machine.specs.Connections.{phase_at, conn_changed, conn_changed_from, admitted, parted, owed_since, not_owed, with_subs_changed}
 use Rattle.fs_machine.specs.Owing.{after_job_begin, background_begun, after_job_end}
 use Rattle.fs_machine.specs.Originations.{MadeGroup, after_winning, group_made}
@@ -37,6 +38,7 @@ use Rattle.fs_machine.specs.Step.{reads, new_conn, act_done, step}
 use Rattle.fs_machine.specs.Runs.{run_from, IsRunFrom}
 use Rattle.fs_machine.proofs.Kept.{Fact, LeavesBy, raced, KeptByApi, KeptByMoves}
 use Rattle.fs_machine.proofs.ActWalk.{acted_kept}
+use Rattle.fs_machine.proofs.ControlLemmas.{behind_held}
 use Rattle.fs_machine.proofs.RestLemmas.{Rest, rest_of, calls_by_rest, dials_by_rest, group_made_rest, won_rest}
 use Rattle.fs_machine.proofs.StillMoves.{IsOver, reads_none, stopped_is_over}
 
@@ -87,9 +89,23 @@ parted_saw parting.Exit leaves c is = absurd (cc)
 parted_saw parting.AuthRefused leaves c is = absurd (cc)
 parted_saw parting.EndOfInput leaves c is = absurd leaves
 parted_saw parting.Stopped leaves c is = absurd leaves
+parted_saw parting.ChannelLeft leaves c is = absurd leaves
 
 silent_saw : (c : Conn) → (parted parting.EndOfInput c).parting ≡ Some parting.Stopped → c.parting ≡ Some parting.Stopped
 silent_saw c is = absurd (cc)
+
+-- whoever parts because its channel has left does not part for this
+left_saw : (s : Switch) → AllSaw s → AllSaw (after_leavings s)
+left_saw s h seat = subst (SawEnd s.stopping) (sym (behind_held s s.conns seat)) (by (held_in s.conns seat) (h seat))
+  where
+    of : (row : Numbered Conn) (left : Bool) → SawEnd s.stopping (Some row) →
+        SawEnd s.stopping (Some (if left then record { number = row.number; held = parted parting.ChannelLeft row.held } else row))
+    of row true k = λ is. absurd (cc)
+    of row false k = k
+
+    by : (held : Option (Numbered Conn)) → SawEnd s.stopping held → SawEnd s.stopping (conn_behind s held)
+    by None k = tt
+    by (Some row) k = of row (is_left s row) k
 
 begun_saw : (by : Giver) (what : JobWork) (s : Switch) → AllSaw s → AllSaw (after_job_begin by what s)
 begun_saw (giver.Conn conn) what s h =
@@ -117,6 +133,7 @@ api_saw by = record {
   draws = λ h. h;
   sleeps = λ until {s = s} may room h. begun_saw by (Sleep until) s h;
   originates = λ groups winner caller timeout {s = s} may are short room h. originated_saw by groups winner caller timeout s h;
+  leavings = λ {s = s} h. left_saw s h;
   ends = λ reply notice {s = s} dead h seat. stops s.entries (held_in (ended reply notice s).conns seat);
 }
   where
@@ -125,10 +142,10 @@ api_saw by = record {
     stops place (Some row) = λ is. refl
 
 -- one comes that has not parted
-arrived_saw : (s : Switch) → AllSaw s → AllSaw (with_new_conn new_conn s)
-arrived_saw s h =
-    each_put_at (SawEnd s.stopping) s.conns (Some (record { number = (numbers.with_conn s.drawn).conns; held = new_conn }))
-    (least_free s.conns 0) h (λ is. absurd (cc))
+come_saw : (new : Conn) (s : Switch) → new.parting ≡ None → AllSaw s → AllSaw (with_new_conn new s)
+come_saw new s none h =
+    each_put_at (SawEnd s.stopping) s.conns (Some (record { number = (numbers.with_conn s.drawn).conns; held = new }))
+    (least_free s.conns 0) h (λ is. absurd (none-some parting.Stopped (sym none ∙ is)))
 
 seen_moves : (before : Switch) → KeptByMoves before Seen
 seen_moves before = record {
@@ -150,14 +167,15 @@ seen_moves before = record {
     gave = λ frame h. h;
     asked = λ change {s = s} h. changed_saw (with_subs_changed change) (λ c is. is) conn s h;
     admitted = λ {s = s} fresh h. changed_saw admitted (λ c is. is) conn s h;
-    parted = λ why {s = s} leaves h. changed_saw (parted why) (parted_saw why leaves) conn s h;
+    parted = λ why {s = s} leaves was h. changed_saw (parted why) (parted_saw why leaves) conn s h;
     backgrounds = λ given command {s = s} room h. background_saw given command s h;
   };
   visits = record {
-    arrived = λ {s = s} h. arrived_saw s h;
+    arrived = λ {s = s} h. come_saw new_conn s refl h;
     taken = λ conn h. h;
-    silent = λ conn {s = s} h. changed_saw (parted parting.EndOfInput) silent_saw conn s h;
-    left = λ conn {s = s} h. each_put_at (SawEnd s.stopping) s.conns None (seat_of s.conns conn) h tt;
+    holds = λ slot c text {s = s} there waits room h. come_saw (controller slot c text) s refl h;
+    silent = λ conn {s = s} was h. changed_saw (parted parting.EndOfInput) silent_saw conn s h;
+    left = λ conn {s = s} was h. each_put_at (SawEnd s.stopping) s.conns None (seat_of s.conns conn) h tt;
     halted = (api_saw (giver.Conn 0)).ends;
   };
 }

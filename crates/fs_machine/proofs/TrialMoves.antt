@@ -324,6 +324,7 @@ trying_api by = record {
   draws = λ h. record { apart = h.apart; next = tt };
   sleeps = λ until {s = s} may room h. begun_trials by (Sleep until) s (λ number tries. absurd (none-some number tries)) h.apart;
   originates = λ groups winner caller timeout {s = s} may are short room h. originates_trials by groups winner caller timeout s h;
+  leavings = λ h. record { apart = h.apart; next = tt };
   ends = λ reply notice {s = s} dead h. record { apart = none_apart (length s.jobs) (length s.origs) s.drawn.origs; next = tt };
 }
 
@@ -361,14 +362,15 @@ trying_moves before = record {
     gave = λ frame {s = s} h. record { apart = h.apart; next = h.next };
     asked = λ change {n = n} {s = s} h. conn_trials (Some n) (with_subs_changed change) conn s h;
     admitted = λ {n = n} {s = s} fresh h. conn_trials (Some n) admitted conn s h;
-    parted = λ why {n = n} {s = s} leaves h. conn_trials (Some n) (parted why) conn s h;
+    parted = λ why {n = n} {s = s} leaves was h. conn_trials (Some n) (parted why) conn s h;
     backgrounds = λ given command {s = s} room h. background_trials given command s h.apart;
   };
   visits = record {
     arrived = λ h. record { apart = h.apart; next = tt };
     taken = λ conn h. record { apart = h.apart; next = tt };
-    silent = λ conn {s = s} h. conn_trials (Some 0) (parted parting.EndOfInput) conn s h;
-    left = λ conn h. record { apart = h.apart; next = tt };
+    holds = λ slot c text there waits room h. record { apart = h.apart; next = tt };
+    silent = λ conn {s = s} was h. conn_trials (Some 0) (parted parting.EndOfInput) conn s h;
+    left = λ conn was h. record { apart = h.apart; next = tt };
     halted = λ reply notice {s = s} dead h. record { apart = none_apart (length s.jobs) (length s.origs) s.drawn.origs; next = tt };
   };
 }

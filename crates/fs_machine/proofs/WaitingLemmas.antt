@@ -1,7 +1,7 @@
 -- What waits for connections, before and after a change.
 use Rattle.std.proofs.Common.{◌≡◌, ℕ, ◌+◌, ◌-◌, ◌^◌, ◌<◌, ◌≤◌, ◌==◌, min, Bool, true, false, if◌then◌else◌, List, [], ◌∷◌, ◌++◌, length}
 use Rattle.std.proofs.Common.{drop, Option, None, Some, ◌⊎◌, inl, inr, refl, sym, ap, subst, ◌∙◌, append_assoc, append-nil, arith}
-use Rattle.std.proofs.lemmas.List.{get_or-set_same, get_or-set_other, length-set}
+use Rattle.std.proofs.lemmas.List.{get_or-set_same, get_or-set_other, length-set, length-map}
 use Rattle.std.proofs.lemmas.Bool.{cases_eq}
 use Rattle.fs_text.specs.Texts.{Text}
 use Rattle.fs_seats.specs.declared.numbered.Numbered.{Numbered}
@@ -12,20 +12,25 @@ use Rattle.fs_seats.proofs.RowLemmas.{seat_within, seats_apart, above_nowhere, s
 use Rattle.fs_seats.proofs.RowLemmas.{within-without_row, seat_of-without_row_same, seat_of-without_row_other, distinct-with_new_row}
 use Rattle.fs_seats.proofs.RowLemmas.{within-with_new_row, seat_of-with_new_row_other, new_stands, new_free}
 use Rattle.fs_state.specs.declared.conn.Conn.{Conn}
+use Rattle.fs_state.specs.declared.conn.Parting.TheVariants.{ChannelLeft}
 use Rattle.fs_state.specs.declared.gift.Gift.{Gift}
 use Rattle.fs_state.specs.Drawn as numbers
 use Rattle.fs_state.specs.Frames.{Frames, texts_of}
 use Rattle.fs_state.specs.Outboxes.{outbox_at, without_first_frame, without_frames, with_frames_at, delivered}
 use Rattle.fs_state.specs.Posting.{posts, with_posts}
 use Rattle.fs_state.specs.Switch.{Switch, waiting_at, outgoing_for, waiting_for, changed_at, with_frame_taken, without_conn, all_given}
-use Rattle.fs_state.specs.Switch.{after_entry}
+use Rattle.fs_state.specs.Switch.{with_new_conn, after_entry}
+use Rattle.fs_state.specs.Moves.{after_completion}
 use Rattle.fs_state.proofs.GiftLemmas.{AreQuiet, quiet_less, quiet_taken, quiet_delivered, changed_length, given_length, delivered_length}
 use Rattle.fs_state.proofs.GiftLemmas.{one_given, texts_append, texts_drop}
-use Rattle.fs_machine.specs.Connections.{phase_of, phase_at}
+use Rattle.fs_machine.specs.Connections.{phase_of, phase_at, parted}
+use Rattle.fs_machine.specs.Controlling.{is_left, conn_behind, controller, taken_hold_of, after_dial, after_letting_go, after_leavings}
 use Rattle.fs_machine.specs.Step.{is_closed, new_conn, arrived}
 use Rattle.fs_machine.specs.Frames.{frames_among, given_in}
 use Rattle.fs_machine.proofs.PostLemmas.{frames_for, texts_for, nothing_posted}
-use Rattle.fs_machine.proofs.RestLemmas.{whichever}
+use Rattle.fs_machine.proofs.RestLemmas.{Rest, rest_of, whichever}
+use Rattle.fs_machine.proofs.ControlLemmas.{behind_held, behind_numbers, behind_seat}
+use Rattle.fs_machine.proofs.DialedLemmas.{dialed_by, completed_rest, freed_rest}
 use Rattle.fs_machine.proofs.KeepLemmas.{is_shut, AreOpen, Keeps}
 
 -- the connections of a switch and its outboxes fit together
@@ -83,6 +88,54 @@ keeps_waiting s t keeps conn = ap texts_of (keeps_outgoing s t keeps conn)
 pub keeps_seat : {who : Option ℕ} {may_end : Bool} → (s t : Switch) → Keeps who may_end s t → (conn : ℕ) →
     seat_of t.conns conn ≡ seat_of s.conns conn
 keeps_seat s t keeps conn = seats_same s.conns t.conns keeps.numbers conn
+
+-- ---- a change that leaves connections and outboxes as they are
+
+rest_ordered : (s t : Switch) → rest_of t ≡ rest_of s → Ordered s → Ordered t
+rest_ordered s t same ordered = record {
+  distinct = subst (λ (r : Rest). AreDistinct r.conns) (sym same) ordered.distinct;
+  within = subst (λ (r : Rest). AreWithin r.conns_drawn r.conns) (sym same) ordered.within;
+  opened = subst (λ (r : Rest). AreOpen r.conns) (sym same) ordered.opened;
+  seats = subst (λ (r : Rest). length r.outboxes ≡ length r.conns) (sym same) ordered.seats;
+  quiet = subst (λ (r : Rest). AreQuiet r.conns r.outboxes) (sym same) ordered.quiet;
+}
+
+rest_outgoing : (s t : Switch) → rest_of t ≡ rest_of s → (conn : ℕ) → outgoing_for t conn ≡ outgoing_for s conn
+rest_outgoing s t same conn = ap (λ (r : Rest). waiting_at r.outboxes (seat_of r.conns conn)) same
+
+-- a connection lets its channel go
+pub freed_ordered : (conn : ℕ) (s : Switch) → Ordered s → Ordered (after_letting_go conn s)
+freed_ordered conn s ordered = rest_ordered s (after_letting_go conn s) (freed_rest conn s) ordered
+
+pub freed_outgoing : (gone : ℕ) (s : Switch) (conn : ℕ) → outgoing_for (after_letting_go gone s) conn ≡ outgoing_for s conn
+freed_outgoing gone s conn = rest_outgoing s (after_letting_go gone s) (freed_rest gone s) conn
+
+-- ---- connections part whose channels have left them
+
+pub left_ordered : (s : Switch) → Ordered s → Ordered (after_leavings s)
+left_ordered s ordered = record {
+  distinct = distinct_same s.conns (after_leavings s).conns (behind_numbers s s.conns) ordered.distinct;
+  within = λ number seat stands. ordered.within number seat (sym (behind_numbers s s.conns number seat) ∙ stands);
+  opened = λ seat. ap is_shut (behind_held s s.conns seat) ∙ by (held_in s.conns seat) (ordered.opened seat);
+  seats = ordered.seats ∙ sym (length-map s.conns (conn_behind s));
+  quiet = λ seat free. ordered.quiet seat (λ number. sym (behind_numbers s s.conns number seat) ∙ free number);
+}
+  where
+    of : (row : Numbered Conn) (left : Bool) → is_closed row.held.phase ≡ false →
+        is_shut (Some (if left then record { number = row.number; held = parted ChannelLeft row.held } else row)) ≡ false
+    of row true shut = refl
+    of row false shut = shut
+
+    by : (held : Option (Numbered Conn)) → is_shut held ≡ false → is_shut (conn_behind s held) ≡ false
+    by None shut = refl
+    by (Some row) shut = of row (is_left s row) shut
+
+-- the same frames wait
+pub left_outgoing : (s : Switch) (conn : ℕ) → outgoing_for (after_leavings s) conn ≡ outgoing_for s conn
+left_outgoing s conn = ap (waiting_at s.outboxes) (behind_seat s s.conns conn)
+
+pub left_waits : (s : Switch) (conn : ℕ) → waiting_for (after_leavings s) conn ≡ waiting_for s conn
+left_waits s conn = ap texts_of (left_outgoing s conn)
 
 -- ---- gifts
 
@@ -265,52 +318,83 @@ pub number_new : (s : Switch) → Ordered s → s.drawn.conns < 2 ^ 32 - 1 → s
 number_new s ordered room =
     above_nowhere s.conns s.drawn.conns (numbers.with_conn s.drawn).conns ordered.within (number_above s.drawn.conns room)
 
-pub arrived_ordered : (s : Switch) → Ordered s → s.drawn.conns < 2 ^ 32 - 1 → Ordered (arrived s).state
-arrived_ordered s ordered room = record {
-  distinct = distinct-with_new_row s.conns (numbers.with_conn s.drawn).conns new_conn ordered.distinct (number_new s ordered room);
-  within = within-with_new_row s.conns (numbers.with_conn s.drawn).conns new_conn (numbers.with_conn s.drawn).conns
+pub come_ordered : (new : Conn) (s : Switch) → is_closed new.phase ≡ false → Ordered s → s.drawn.conns < 2 ^ 32 - 1 →
+    Ordered (with_new_conn new s)
+come_ordered new s shut ordered room = record {
+  distinct = distinct-with_new_row s.conns (numbers.with_conn s.drawn).conns new ordered.distinct (number_new s ordered room);
+  within = within-with_new_row s.conns (numbers.with_conn s.drawn).conns new (numbers.with_conn s.drawn).conns
       (λ number seat stands. omega (arith, ordered.within number seat stands, number_above s.drawn.conns room)) (omega arith);
   opened =
-      each_put_at (λ held. is_shut held ≡ false) s.conns (Some (record { number = (numbers.with_conn s.drawn).conns; held = new_conn }))
-      (least_free s.conns 0) ordered.opened refl;
+      each_put_at (λ held. is_shut held ≡ false) s.conns (Some (record { number = (numbers.with_conn s.drawn).conns; held = new }))
+      (least_free s.conns 0) ordered.opened shut;
   seats = ordered.seats
-      ∙ sym (length_put_at s.conns (Some (record { number = (numbers.with_conn s.drawn).conns; held = new_conn })) (least_free s.conns 0));
-  quiet = λ seat free. ordered.quiet seat (new_free s.conns (numbers.with_conn s.drawn).conns new_conn seat free);
+      ∙ sym (length_put_at s.conns (Some (record { number = (numbers.with_conn s.drawn).conns; held = new })) (least_free s.conns 0));
+  quiet = λ seat free. ordered.quiet seat (new_free s.conns (numbers.with_conn s.drawn).conns new seat free);
 }
 
+pub arrived_ordered : (s : Switch) → Ordered s → s.drawn.conns < 2 ^ 32 - 1 → Ordered (arrived s).state
+arrived_ordered s ordered room =
+    let come : Ordered (with_new_conn new_conn s) = come_ordered new_conn s refl ordered room in
+    record { distinct = come.distinct; within = come.within; opened = come.opened; seats = come.seats; quiet = come.quiet }
+
 -- nothing waits for it yet but what the entry gives
-pub arrived_outgoing : (s : Switch) (conn : ℕ) → Ordered s → s.drawn.conns < 2 ^ 32 - 1 →
-    outgoing_for (arrived s).state conn ≡ outgoing_for s conn
-arrived_outgoing s conn ordered room = by (cases_eq (numbers.with_conn s.drawn).conns conn)
+pub come_outgoing : (new : Conn) (s : Switch) (conn : ℕ) → Ordered s → s.drawn.conns < 2 ^ 32 - 1 →
+    outgoing_for (with_new_conn new s) conn ≡ outgoing_for s conn
+come_outgoing new s conn ordered room = by (cases_eq (numbers.with_conn s.drawn).conns conn)
   where
-    new : seat_of s.conns (numbers.with_conn s.drawn).conns ≡ None
-    new = number_new s ordered room
+    none : seat_of s.conns (numbers.with_conn s.drawn).conns ≡ None
+    none = number_new s ordered room
 
     nothing : (found : Option ℕ) →
-        seat_of (with_new_row s.conns (numbers.with_conn s.drawn).conns new_conn) (numbers.with_conn s.drawn).conns ≡ found →
+        seat_of (with_new_row s.conns (numbers.with_conn s.drawn).conns new) (numbers.with_conn s.drawn).conns ≡ found →
         waiting_at s.outboxes found ≡ []
     nothing None is = refl
     nothing (Some seat) is =
-        ordered.quiet seat (new_stands s.conns (numbers.with_conn s.drawn).conns new_conn seat new
-        (seat_stands (with_new_row s.conns (numbers.with_conn s.drawn).conns new_conn) (numbers.with_conn s.drawn).conns seat is))
+        ordered.quiet seat (new_stands s.conns (numbers.with_conn s.drawn).conns new seat none
+        (seat_stands (with_new_row s.conns (numbers.with_conn s.drawn).conns new) (numbers.with_conn s.drawn).conns seat is))
 
     by : ((numbers.with_conn s.drawn).conns ≡ conn) ⊎ ((numbers.with_conn s.drawn).conns ≡ conn → ⊥) →
-        outgoing_for (arrived s).state conn ≡ outgoing_for s conn
-    by (inl same) = subst (λ number. outgoing_for (arrived s).state number ≡ outgoing_for s number) same
-        (nothing (seat_of (with_new_row s.conns (numbers.with_conn s.drawn).conns new_conn) (numbers.with_conn s.drawn).conns) refl
-        ∙ sym (ap (waiting_at s.outboxes) new))
-    by (inr differ) = ap (waiting_at s.outboxes) (seat_of-with_new_row_other s.conns (numbers.with_conn s.drawn).conns new_conn conn differ)
+        outgoing_for (with_new_conn new s) conn ≡ outgoing_for s conn
+    by (inl same) = subst (λ number. outgoing_for (with_new_conn new s) number ≡ outgoing_for s number) same
+        (nothing (seat_of (with_new_row s.conns (numbers.with_conn s.drawn).conns new) (numbers.with_conn s.drawn).conns) refl
+        ∙ sym (ap (waiting_at s.outboxes) none))
+    by (inr differ) = ap (waiting_at s.outboxes) (seat_of-with_new_row_other s.conns (numbers.with_conn s.drawn).conns new conn differ)
+
+pub arrived_outgoing : (s : Switch) (conn : ℕ) → Ordered s → s.drawn.conns < 2 ^ 32 - 1 →
+    outgoing_for (arrived s).state conn ≡ outgoing_for s conn
+arrived_outgoing s conn ordered room = come_outgoing new_conn s conn ordered room
 
 pub arrived_waits : (s : Switch) (conn : ℕ) → Ordered s → s.drawn.conns < 2 ^ 32 - 1 →
     waiting_for (arrived s).state conn ≡ waiting_for s conn
 arrived_waits s conn ordered room = ap texts_of (arrived_outgoing s conn ordered room)
 
 -- one that had a smaller number, and is gone, stays so
+pub come_gone : (new : Conn) (s : Switch) (conn : ℕ) → s.drawn.conns < 2 ^ 32 - 1 → seat_of s.conns conn ≡ None → conn ≤ s.drawn.conns →
+    seat_of (with_new_conn new s).conns conn ≡ None
+come_gone new s conn room none below =
+    seat_of-with_new_row_other s.conns (numbers.with_conn s.drawn).conns new conn
+    (λ same. omega (arith, number_above s.drawn.conns room, below, same)) ∙ none
+
 pub arrived_gone : (s : Switch) (conn : ℕ) → s.drawn.conns < 2 ^ 32 - 1 → seat_of s.conns conn ≡ None → conn ≤ s.drawn.conns →
     seat_of (arrived s).state.conns conn ≡ None
-arrived_gone s conn room none below =
-    seat_of-with_new_row_other s.conns (numbers.with_conn s.drawn).conns new_conn conn
-    (λ same. omega (arith, number_above s.drawn.conns room, below, same)) ∙ none
+arrived_gone s conn room none below = come_gone new_conn s conn room none below
+
+-- ---- a controller was dialed
+
+-- its connection comes, or none does
+pub dialed_ordered : (linked : Bool) (slot : ℕ) (s : Switch) → Ordered s → s.drawn.conns < 2 ^ 32 - 1 → Ordered (after_dial linked slot s)
+dialed_ordered linked slot s ordered room =
+    dialed_by Ordered linked slot s ordered
+    (λ c text. rest_ordered (with_new_conn (controller slot c text) s) (taken_hold_of slot c text s) refl
+    (come_ordered (controller slot c text) s refl ordered room))
+    (rest_ordered s (after_completion slot s) (completed_rest slot s) ordered)
+
+pub dialed_outgoing : (linked : Bool) (slot : ℕ) (s : Switch) (conn : ℕ) → Ordered s → s.drawn.conns < 2 ^ 32 - 1 →
+    outgoing_for (after_dial linked slot s) conn ≡ outgoing_for s conn
+dialed_outgoing linked slot s conn ordered room =
+    dialed_by (λ (t : Switch). outgoing_for t conn ≡ outgoing_for s conn) linked slot s refl
+    (λ c text. come_outgoing (controller slot c text) s conn ordered room)
+    (rest_outgoing s (after_completion slot s) (completed_rest slot s) conn)
 
 -- one that is gone stays so when another goes
 pub without_gone : (gone : ℕ) (s : Switch) (conn : ℕ) → Ordered s → seat_of s.conns conn ≡ None →

@@ -1,7 +1,7 @@
 -- The one walk through what channels do: a fact that bears each of their moves is kept by all that they do.
 use Rattle.std.proofs.Common.{◌≡◌, ℕ, ◌+◌, ◌==◌, Bool, true, false, if◌then◌else◌, List, [], ◌∷◌, length, Option, None, Some}
 use Rattle.std.proofs.Common.{option_map, option_and_then, is_none, Result, Ok, Err, IsSome, slice_get, unwrap_or, codes}
-use Rattle.std.proofs.Common.{refl, sym, ap, subst}
+use Rattle.std.proofs.Common.{refl, sym, ap, subst, inl, inr}
 use Rattle.std.proofs.Common.{◌∙◌}
 use Rattle.std.proofs.Common.{true≢false}
 use Rattle.fs_text.specs.declared.states.State.{State}
@@ -59,13 +59,15 @@ use Rattle.fs_machine.specs.Applications.{argument_in, executed_within, after_ru
 use Rattle.fs_machine.specs.Attempts.{awaits, failed_for, won_for, group_for, with_group, after_verdict_on}
 use Rattle.fs_machine.specs.Bridging.{caller_of, group_dialed, goes_on, after_going_on, bridge_failed_from, after_bridge_failure}
 use Rattle.fs_machine.specs.Bridging.{after_bridge_win, disposed}
+use Rattle.fs_machine.specs.Controlling.{names_target, may_dial, after_socket, completed_by, with_completion_of, let_go_from, let_go_in}
+use Rattle.fs_machine.specs.Controlling.{slot_controlled_by, after_letting_go}
 use Rattle.fs_machine.specs.Dialing.{bridge_timeout, bridge_begun_from, bridge_dialed, after_dialing}
 use Rattle.fs_machine.specs.Work.{with_variables, routed_to, has_xml, actions_for, too_long_cause, found_for, routed_by, after_routing_from}
 use Rattle.fs_machine.specs.Work.{first_state, after_wait, after_work_in, after_work_from, after_work}
 use Rattle.fs_machine.specs.Originations.{Made, made_dead, made_in, with_second, free_pair, is_congested, loopback_made, set_all}
 use Rattle.fs_machine.specs.Originations.{no_variables, own_uuid, call_with, is_misnamed, made_with, made_of, leg_made, group_made}
 use Rattle.fs_machine.proofs.DialLemmas.{dialed_groups}
-use Rattle.fs_machine.proofs.ShortLemmas.{sent_short, application_short, endpoint_short}
+use Rattle.fs_machine.proofs.ShortLemmas.{left_holds, sent_short, application_short, endpoint_short}
 use Rattle.fs_machine.specs.Sound.{is_idle}
 use Rattle.fs_machine.proofs.LimitLemmas.{AreLimited, assigned_limited, set_all_limited, none_limited, hunted_limited, found_limited}
 use Rattle.fs_machine.proofs.Kept.{Stage, Fact, hold_in, Stays, KeptByTouches, KeptByCalls, KeptByBirths, IsAtWork, KeptByDials, won_of}
@@ -73,7 +75,7 @@ use Rattle.fs_machine.proofs.Kept.{raced, HasWon, IsOver, IsShortCall}
 use Rattle.fs_machine.proofs.StayLemmas.{new_lives, init_lives, routing_lives, execute_lives, park_lives, first_lives, reporting_dead}
 use Rattle.fs_machine.proofs.StayLemmas.{live_by}
 use Rattle.fs_machine.proofs.StayLemmas.{same_vars, set_vars, early_vars, work_stays, rest_links, AllQuiet, AllKeep, quiet_stays}
-use Rattle.fs_machine.proofs.StayLemmas.{after_next_keeps, after_next_quiet, running_quiet}
+use Rattle.fs_machine.proofs.StayLemmas.{same_holder, rest_holder, dials_stays, let_go_stays, after_next_keeps, after_next_quiet, running_quiet}
 use Rattle.fs_machine.proofs.StayLemmas.{variables_quiet, assignment_quiet, answer_quiet, disposition_quiet, WorksAt, is_at_work}
 use Rattle.fs_machine.proofs.StayLemmas.{application_plain, moved_plain, changed_there, moved_works, changed_works, answered_works}
 use Rattle.fs_machine.proofs.StayLemmas.{hangup_dead}
@@ -87,6 +89,7 @@ use Rattle.fs_state.specs.Queues.{queue_event, first_caller}
 use Rattle.fs_state.specs.declared.event.QueueAction.TheVariants.{Push, CallerPop}
 use Rattle.fs_state.specs.Bridging.{can_join, joined_as, after_join}
 use Rattle.fs_bridge.specs.declared.row.BridgeKind.TheVariants.{Fifo}
+use Rattle.fs_chan.specs.Controlling.{awaiting_dial, let_go, is_held_by}
 use Rattle.fs_chan.specs.Queueing.{queued, awaiting_caller, turn_in}
 use Rattle.fs_chan.specs.Bridging.{awaited_in}
 use Rattle.std.specs.Prelude.{◌&&◌, is_some}
@@ -97,44 +100,53 @@ use Rattle.std.proofs.lemmas.Bool.{false≢true}
 -- a channel that is being made is no leg of a bridge, or leaves a state in which others wait for it
 begins_stays : {b : Stage} (c : Chan) → c.state ≡ CsNew → Stays b c (in_state CsInit c)
 begins_stays c is = record {
-  links = refl;
-  live = init_lives ∙ sym (live_by c CsNew true is new_lives);
-  short = λ short. short;
-  apt = λ apt. record { outbound = apt.outbound; idle = λ some. refl; free = apt.free; alone = apt.alone; held = apt.held };
-  vars = same_vars c.vars c.vars refl;
+  keeps = record {
+    links = refl;
+    live = init_lives ∙ sym (live_by c CsNew true is new_lives);
+    short = λ short. short;
+    apt = λ apt. record { outbound = apt.outbound; idle = λ some. refl; free = apt.free; alone = apt.alone; held = apt.held };
+    vars = same_vars c.vars c.vars refl;
+  };
+  holder = same_holder refl refl;
 }
 
 -- an inbound one is routed, and is no leg that others wait for
 first_stays : {b : Stage} (c : Chan) → c.state ≡ CsInit → Stays b c (in_state (first_state c.direction) c)
 first_stays c is = record {
-  links = refl;
-  live = first_lives c.direction ∙ sym (live_by c CsInit true is init_lives);
-  short = λ short. short;
-  apt = λ apt. record {
-    outbound = apt.outbound;
-    idle = λ some. ap (λ (direction : Direction). is_idle (first_state direction)) (apt.outbound some);
-    free = apt.free;
-    alone = apt.alone;
-    held = apt.held;
+  keeps = record {
+    links = refl;
+    live = first_lives c.direction ∙ sym (live_by c CsInit true is init_lives);
+    short = λ short. short;
+    apt = λ apt. record {
+      outbound = apt.outbound;
+      idle = λ some. ap (λ (direction : Direction). is_idle (first_state direction)) (apt.outbound some);
+      free = apt.free;
+      alone = apt.alone;
+      held = apt.held;
+    };
+    vars = same_vars c.vars c.vars refl;
   };
-  vars = same_vars c.vars c.vars refl;
+  holder = same_holder refl refl;
 }
 
 -- nobody waits for one that is being routed
 routed_stays : (vars : Variables) (actions : List Action) (c : Chan) → c.state ≡ CsRouting → (AreLimited c.vars → AreLimited vars) →
     Stays None c (routed vars actions c)
 routed_stays vars actions c is limits = record {
-  links = refl;
-  live = execute_lives ∙ sym (live_by c CsRouting true is routing_lives);
-  short = λ short. short;
-  apt = λ apt. record {
-    outbound = apt.outbound;
-    idle = λ some. absurd (true≢false (sym (apt.idle some) ∙ ap is_idle is));
-    free = apt.free;
-    alone = apt.alone;
-    held = apt.held;
+  keeps = record {
+    links = refl;
+    live = execute_lives ∙ sym (live_by c CsRouting true is routing_lives);
+    short = λ short. short;
+    apt = λ apt. record {
+      outbound = apt.outbound;
+      idle = λ some. absurd (true≢false (sym (apt.idle some) ∙ ap is_idle is));
+      free = apt.free;
+      alone = apt.alone;
+      held = apt.held;
+    };
+    vars = early_vars c.vars vars limits;
   };
-  vars = early_vars c.vars vars limits;
+  holder = same_holder refl refl;
 }
 
 -- without actions only its variables change
@@ -143,37 +155,48 @@ found_stays vars c limits = quiet_stays c (with_variables vars c) (variables_qui
 
 reports_stays : {b : Stage} (c : Chan) → c.state ≡ CsHangup → Stays b c (in_state CsReporting c)
 reports_stays c is = record {
-  links = refl;
-  live = reporting_dead ∙ sym (live_by c CsHangup false is hangup_dead);
-  short = λ short. short;
-  apt = λ apt. record {
-    outbound = apt.outbound;
-    idle = λ some. absurd (true≢false (sym (apt.idle some) ∙ ap is_idle is));
-    free = apt.free;
-    alone = apt.alone;
-    held = apt.held;
+  keeps = record {
+    links = refl;
+    live = reporting_dead ∙ sym (live_by c CsHangup false is hangup_dead);
+    short = λ short. short;
+    apt = λ apt. record {
+      outbound = apt.outbound;
+      idle = λ some. absurd (true≢false (sym (apt.idle some) ∙ ap is_idle is));
+      free = apt.free;
+      alone = apt.alone;
+      held = apt.held;
+    };
+    vars = same_vars c.vars c.vars refl;
   };
-  vars = same_vars c.vars c.vars refl;
+  holder = same_holder refl refl;
 }
 
 -- what one does that is at work
 rests_stays : {b : Stage} (c : Chan) → IsAtWork c → Stays b c (at_rest c)
-rests_stays c works = work_stays c (at_rest c) works (rest_links c c.state) works.live (λ short. short) refl
+rests_stays c works =
+    work_stays c (at_rest c) works (rest_links c c.state) works.live (λ short. short) refl
+    (rest_holder c.socket c.state (inl refl) refl)
 
 parks_stays : {b : Stage} (c : Chan) → IsAtWork c → Stays b c (parked c)
-parks_stays c works = work_stays c (parked c) works (rest_links c CsPark) park_lives (λ short. short) refl
+parks_stays c works =
+    work_stays c (parked c) works (rest_links c CsPark) park_lives (λ short. short) refl (rest_holder c.socket CsPark (inl refl) refl)
 
 sleeps_stays : {b : Stage} (now milliseconds : ℕ) (c : Chan) → IsAtWork c → Stays b c (asleep now milliseconds c)
-sleeps_stays now milliseconds c works = work_stays c (asleep now milliseconds c) works refl works.live (λ short. short) refl
+sleeps_stays now milliseconds c works =
+    work_stays c (asleep now milliseconds c) works refl works.live (λ short. short) refl (record { socket = inl refl; dials = λ h. tt })
 
 queues_stays : {b : Stage} (name : Text) (place : ℕ) (c : Chan) → IsAtWork c → Stays b c (queued name place c)
-queues_stays name place c works = work_stays c (queued name place c) works refl works.live (λ short. short) refl
+queues_stays name place c works =
+    work_stays c (queued name place c) works refl works.live (λ short. short) refl (record { socket = inl refl; dials = λ h. tt })
 
 awaits_stays : {b : Stage} (name : Text) (c : Chan) → IsAtWork c → Stays b c (awaiting_caller name c)
-awaits_stays name c works = work_stays c (awaiting_caller name c) works refl works.live (λ short. short) refl
+awaits_stays name c works =
+    work_stays c (awaiting_caller name c) works refl works.live (λ short. short) refl (record { socket = inl refl; dials = λ h. tt })
 
 transfers_stays : {b : Stage} (to : Target3) (c : Chan) → IsShortTarget to → IsAtWork c → Stays b c (transferred to c)
-transfers_stays to c short works = work_stays c (transferred to c) works refl routing_lives (sent_short to c.profile short) refl
+transfers_stays to c short works =
+    work_stays c (transferred to c) works refl routing_lives (sent_short to c.profile short) refl
+    (record { socket = inr refl; dials = λ h. tt })
 
 -- plans have a leg where those have that they are made of
 pub behind_filled : (pairs : List (Text × Text)) (group : List LegPlan) → IsSome (slice_get group 0) →
@@ -233,7 +256,7 @@ module _ (P : Fact) (kept : KeptByTouches P) where
       kept.told (application_event ChannelExecute (Some action) slot) (refl, tt)
       (moved_kept (with_running action) slot (running_quiet action) (λ c. same_vars c.vars c.vars refl) h)
 
-  completed_kept : (slot : ℕ) {b : Stage} {s : Switch} → WorksAt s.channels slot → P b s → P b (after_completion slot s)
+  pub completed_kept : (slot : ℕ) {b : Stage} {s : Switch} → WorksAt s.channels slot → P b s → P b (after_completion slot s)
   completed_kept slot {b} {s} at h =
       kept.told (application_event ChannelExecuteComplete (running_at slot s) slot) (application_plain (running_at slot s) slot)
       (work_moved at_rest slot at rests_stays h)
@@ -291,6 +314,19 @@ module _ (P : Fact) (kept : KeptByTouches P) where
   no_caller_kept true name slot at h = work_moved (awaiting_caller name) slot at (awaits_stays name) h
   no_caller_kept false name slot at h = completed_kept slot at h
 
+  -- a controller is sought
+  seeking_kept : (text : Text) (slot : ℕ) {b : Stage} {s : Switch} → WorksAt s.channels slot → P b s → P b (after_socket text slot s)
+  seeking_kept text slot {b} {s} at h = by (may_dial text (chan_at s slot)) refl
+    where
+      names : (found : Option Chan) → may_dial text found ≡ true → names_target text ≡ true
+      names None may = absurd (false≢true may)
+      names (Some c) may = left_holds (names_target text) (is_none c.socket) may
+
+      by : (may : Bool) → may_dial text (chan_at s slot) ≡ may →
+          P b (if may then after_move (awaiting_dial text) slot s else after_completion slot s)
+      by true is = work_moved (awaiting_dial text) slot at (λ c works. dials_stays text c (names (chan_at s slot) is) works) h
+      by false is = completed_kept slot at h
+
   variable_kept : (how : Assignment) (argument : Text) (slot : ℕ) {s : Switch} → P None s →
       P None (after_move (with_assignment how argument) slot s)
   variable_kept how argument slot h =
@@ -303,6 +339,25 @@ module _ (P : Fact) (kept : KeptByTouches P) where
   assigned_kept Set argument slot h = variable_kept Set argument slot h
   assigned_kept Unset argument slot h = variable_kept Unset argument slot h
   assigned_kept Export argument slot h = variable_kept Export argument slot h
+
+  -- ---- controllers
+
+  pub let_go_kept : (conn : ℕ) {b : Stage} {s : Switch} → P b s → P b (after_letting_go conn s)
+  let_go_kept conn {b} {s} h = by (slot_controlled_by conn s)
+    where
+      complete : (running : Option Action) (slot : ℕ) {t : Switch} → P b t → P b (with_completion_of running slot t)
+      complete None slot k = k
+      complete (Some action) slot k = kept.told (application_event ChannelExecuteComplete (Some action) slot) (refl, tt) k
+
+      from : (slot : ℕ) (found : Option Chan) → chan_at s slot ≡ found → P b (let_go_from conn slot found s)
+      from slot None is = h
+      from slot (Some c) is =
+          either (is_held_by conn c)
+          (complete (completed_by c.wait c.running) slot (kept.changed slot c (let_go c) is (let_go_stays c) h)) h
+
+      by : (slot : Option ℕ) → P b (let_go_in conn slot s)
+      by None = h
+      by (Some slot) = from slot (chan_at s slot) refl
 
 -- it is at work behind an assignment
 assigned_works : (how : Assignment) (argument : Text) (slot : ℕ) (s : Switch) → WorksAt s.channels slot →
@@ -421,6 +476,7 @@ module _ (before : Switch) (P : Fact) (kept : KeptByCalls P) (dials : KeptByDial
       dials.spent (queueing_kept P kept.touches name slot (answered_works slot s at) (answered_kept P kept.touches slot h))
   effect_kept (app.FifoOut name waits) slot {s} short at h =
       taking_kept waits name slot (answered_works slot s at) (answered_kept P kept.touches slot h)
+  effect_kept (app.Socket text) slot short at h = dials.spent (seeking_kept P kept.touches text slot at h)
   effect_kept app.Unknown slot short at h = hung_up_kept DestinationOutOfOrder slot h
 
   executed_kept : (application : Text) (argument : Option Text) (slot : ℕ) {s : Switch} → WorksAt s.channels slot → P None s →

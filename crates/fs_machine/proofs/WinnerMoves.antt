@@ -111,6 +111,7 @@ winners_api by = record {
   draws = λ h. h;
   sleeps = λ until {s = s} may room h. owing_winners by (Sleep until) s tt h;
   originates = λ groups winner caller timeout {s = s} may are short room h. originates_winners by groups winner caller timeout s short h;
+  leavings = λ h. h;
   ends = λ reply notice {s = s} dead h. no_winners (length s.jobs);
 }
 
@@ -147,15 +148,16 @@ winners_moves before = record {
     asked = λ change {s = s} h. same_winners s (conn_changed (with_subs_changed change) conn s)
         (conn_jobs (with_subs_changed change) conn s) h;
     admitted = λ {s = s} fresh h. same_winners s (conn_changed admitted conn s) (conn_jobs admitted conn s) h;
-    parted = λ why {s = s} leaves h. same_winners s (conn_changed (parted why) conn s) (conn_jobs (parted why) conn s) h;
+    parted = λ why {s = s} leaves was h. same_winners s (conn_changed (parted why) conn s) (conn_jobs (parted why) conn s) h;
     backgrounds = λ given command {s = s} room h. background_winners given command s h;
   };
   visits = record {
     arrived = λ h. h;
     taken = λ conn h. h;
-    silent = λ conn {s = s} h. same_winners s (conn_changed (parted parting.EndOfInput) conn s)
+    holds = λ slot c text there waits room h. h;
+    silent = λ conn {s = s} was h. same_winners s (conn_changed (parted parting.EndOfInput) conn s)
         (conn_jobs (parted parting.EndOfInput) conn s) h;
-    left = λ conn h. h;
+    left = λ conn was h. h;
     halted = λ reply notice {s = s} dead h. no_winners (length s.jobs);
   };
 }

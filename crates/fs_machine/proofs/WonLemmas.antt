@@ -27,7 +27,7 @@ can_join_touches caller answerer = record {
   globals = λ globals h. h;
   changed = λ slot old new {s = s} there stays h.
       let same : (seat : ℕ) → lives_at (with_chan slot (Some new) s) seat ≡ lives_at s seat =
-      held_put lives s.channels slot (Some new) (ap lives there ∙ sym stays.live) in
+      held_put lives s.channels slot (Some new) (ap lives there ∙ sym stays.keeps.live) in
       can_join_by caller answerer (with_chan slot (Some new) s) (joins_apart caller answerer s h)
       (same caller ∙ caller_lives caller answerer s h) (same answerer ∙ answerer_lives caller answerer s h)
       (caller_lone caller answerer s h) (answerer_lone caller answerer s h) (number_left caller answerer s h);

@@ -19,6 +19,7 @@ use Rattle.fs_app.specs.Applications.{application_of}
 use Rattle.fs_state.specs.Switch.{Switch, chan_at}
 use Rattle.fs_state.specs.Hangups.{after_hangup}
 use Rattle.fs_state.specs.Moves.{after_move, after_answer, after_completion, run_on}
+use Rattle.fs_machine.specs.Controlling.{after_socket}
 use Rattle.fs_machine.specs.Dialing.{after_dialing}
 use Rattle.fs_machine.specs.Queueing.{after_fifo_in, after_fifo_out}
 
@@ -67,6 +68,7 @@ after_effect (app.Transfer to) slot s = after_move (transferred to) slot s
 after_effect (app.Bridge dial) slot s = after_dialing dial slot s
 after_effect (app.FifoIn name) slot s = after_fifo_in name slot s
 after_effect (app.FifoOut name waits) slot s = after_fifo_out waits name slot s
+after_effect (app.Socket target) slot s = after_socket target slot s
 after_effect app.Unknown slot s = after_hangup DestinationOutOfOrder slot s
 
 -- ---- running one

@@ -1,14 +1,17 @@
 -- How an entry of a run concerns one connection: it is its own, one of others, or the one by which it comes.
-use Rattle.std.specs.Prelude.{◌≡◌, ◌≢◌, ℕ, Bool, true, false, [], ◌∷◌, ◌++◌, Option, None, Some, ◌⊎◌}
+use Rattle.std.specs.Prelude.{◌≡◌, ◌≢◌, ℕ, Bool, true, false, List, [], ◌∷◌, ◌++◌, Option, None, Some, ◌⊎◌}
+use Rattle.fs_text.specs.Texts.{Text}
 use Rattle.fs_cmd.specs.Frames.{auth_request}
-use Rattle.fs_state.specs.declared.conn.Phase.TheVariants.{Fresh, Ending, Closed}
+use Rattle.fs_state.specs.declared.conn.Phase.{Phase}
+use Rattle.fs_state.specs.declared.conn.Phase.TheVariants.{Fresh, Ready, Ending, Closed}
 use Rattle.fs_state.specs.declared.conn.Parting.{Parting}
 use Rattle.fs_state.specs.declared.conn.Parting.TheVariants as parting
 use Rattle.fs_state.specs.Switch.{Switch, waiting_for}
 use Rattle.fs_machine.specs.declared.entry.Entry.{Entry}
 use Rattle.fs_machine.specs.declared.entry.Act.{Act}
-use Rattle.fs_machine.specs.declared.entry.Act.TheVariants.{Arrive, Command, Take, Close, Work, Job, Halt}
+use Rattle.fs_machine.specs.declared.entry.Act.TheVariants.{Arrive, Command, Take, Close, Dialed, Work, Job, Halt}
 use Rattle.fs_machine.specs.Connections.{phase_at}
+use Rattle.fs_machine.specs.Controlling.{coming_number, held_through}
 use Rattle.fs_machine.specs.Questions.{owed_to, parting_at}
 use Rattle.fs_machine.specs.Step.{reads, is_closed, step}
 use Rattle.fs_machine.specs.Frames.{given_by, handed_in, command_in}
@@ -19,6 +22,7 @@ actor_of Arrive = None
 actor_of (Command conn block) = Some conn
 actor_of (Take conn) = Some conn
 actor_of (Close conn how) = Some conn
+actor_of (Dialed slot linked) = None
 actor_of (Work slot) = None
 actor_of (Job number) = None
 actor_of Halt = None
@@ -38,6 +42,7 @@ is_its_own parting.Exit = true
 is_its_own parting.AuthRefused = true
 is_its_own parting.EndOfInput = true
 is_its_own parting.Stopped = false
+is_its_own parting.ChannelLeft = false
 
 -- it stays in its phase, and has parted for what it had parted for
 pub record KeepsPhase (conn : ℕ) (s t : Switch) : Type 0 where
@@ -66,13 +71,34 @@ pub record IsOthers (conn : ℕ) (s : Switch) (entry : Entry) : Type 0 where
   pub owed : owed_to s conn ≡ None → owed_to (step s entry).state conn ≡ None
   pub frames : waiting_for (step s entry).state conn ≡ waiting_for s conn ++ given_by conn s entry
 
--- The act by which it comes. It is asked for the password, and nothing else waits.
+-- the connection that comes by an act, if one does: it arrives, or is that of a controller which takes hold of a channel
+abbrev pub comer_of : Act → Switch → Option ℕ
+comer_of Arrive s = Some (coming_number s)
+comer_of (Command conn block) s = None
+comer_of (Take conn) s = None
+comer_of (Close conn how) s = None
+comer_of (Dialed slot linked) s = held_through linked slot s
+comer_of (Work slot) s = None
+comer_of (Job number) s = None
+comer_of Halt s = None
+
+-- the phase in which it is then: one that arrives gives no command but its password, the one of a controller gives all
+abbrev pub first_phase : Act → Phase
+first_phase Arrive = Fresh
+first_phase _ = Ready
+
+-- what it is given by that: one that arrives is asked for the password, a controller is told nothing before it asks
+abbrev pub first_frames : Act → List Text
+first_frames Arrive = auth_request ∷ []
+first_frames _ = []
+
+-- The act by which it comes. It is given its first frames, and nothing else waits.
 pub record Comes (conn : ℕ) (s : Switch) (entry : Entry) : Type 0 where
-  pub act : entry.act ≡ Arrive
+  pub comer : comer_of entry.act s ≡ Some conn
   pub before : phase_at s conn ≡ Closed
-  pub after : phase_at (step s entry).state conn ≡ Fresh
-  pub given : given_by conn s entry ≡ auth_request ∷ []
-  pub frames : waiting_for (step s entry).state conn ≡ auth_request ∷ []
+  pub after : phase_at (step s entry).state conn ≡ first_phase entry.act
+  pub given : given_by conn s entry ≡ first_frames entry.act
+  pub frames : waiting_for (step s entry).state conn ≡ first_frames entry.act
 
 -- an entry concerns a connection in one of these three ways
 abbrev pub Concerns : ℕ → Switch → Entry → Type 0

@@ -1,11 +1,12 @@
 -- When channels and jobs have something to do by themselves.
-use Rattle.std.specs.Prelude.{ℕ, Bool, true, false, if◌then◌else◌, Option, None, Some}
+use Rattle.std.specs.Prelude.{ℕ, ◌||◌, Bool, true, false, if◌then◌else◌, Option, None, Some, is_some}
 use Rattle.std.specs.Option.{option_and_then}
 use Rattle.fs_text.specs.Texts.{Text}
 use Rattle.fs_chan.specs.declared.chan.Chan.{Chan}
 use Rattle.fs_chan.specs.declared.due.Due.{Due}
 use Rattle.fs_chan.specs.declared.due.Due.TheVariants.{Now, At}
 use Rattle.fs_chan.specs.Bridging.{awaited_by}
+use Rattle.fs_chan.specs.Controlling.{dial_of}
 use Rattle.fs_chan.specs.Queueing.{wanted_by}
 use Rattle.fs_chan.specs.Work.{due_of, due_at}
 use Rattle.fs_orig.specs.declared.orig.Orig.{Orig}
@@ -74,11 +75,15 @@ later_of None = None
 later_of (Some Now) = None
 later_of (Some (At moment)) = Some moment
 
--- what stands in a slot has something to do
-abbrev pub is_due : Switch → Option Chan → Bool
-is_due s chan = is_now (chan_due s chan)
+-- what stands in a slot waits until a controller was dialed
+abbrev pub dials : Option Chan → Bool
+dials chan = is_some (option_and_then dial_of chan)
 
--- the least slot that has something to do
+-- what stands in a slot has something to do, or waits so
+abbrev pub is_due : Switch → Option Chan → Bool
+is_due s chan = is_now (chan_due s chan) || dials chan
+
+-- the least slot of which that is so
 abbrev pub due_slot : Switch → Option ℕ
 due_slot s = first_seat (is_due s) s.channels 0
 
@@ -131,16 +136,26 @@ later_or_never moment = actor_or actor.Later moment actor.Never
 abbrev pub due_among_jobs : Switch → DueActor
 due_among_jobs s = actor_or actor.Job (due_job s) (later_or_never (first_job_moment s))
 
+-- the channel in a slot has something to do, or waits until a controller was dialed
+abbrev pub turn_of : Switch → ℕ → DueActor
+turn_of s slot = if dials (chan_at s slot) then actor.Dial slot else actor.Slot slot
+
+-- the least job that has something to do, or else the next moment at which a channel or a job has
+abbrev pub due_but_slots : Switch → DueActor
+due_but_slots s = actor_or actor.Job (due_job s) (later_or_never (lesser (first_chan_moment s) (first_job_moment s)))
+
 -- the least slot, or else the least job, that has something to do, or else the next moment at which one has
 abbrev pub due_among_all : Switch → DueActor
-due_among_all s =
-    actor_or actor.Slot (due_slot s) (actor_or actor.Job (due_job s) (later_or_never (lesser (first_chan_moment s) (first_job_moment s))))
+due_among_all s = actor_or (turn_of s) (due_slot s) (due_but_slots s)
 
 -- the channel in a slot
 abbrev pub due_as : ℕ → Option Due → DueActor
 due_as slot None = actor.Never
 due_as slot (Some Now) = actor.Slot slot
 due_as slot (Some (At moment)) = actor.Later moment
+
+abbrev pub due_in_slot : ℕ → Switch → DueActor
+due_in_slot slot s = if dials (chan_at s slot) then actor.Dial slot else due_as slot (slot_due slot s)
 
 -- the least slot, or else the least job, that has something to do at a moment, or the next moment at which one has
 unfoldable pub next_due : ℕ → Switch → DueActor
@@ -152,4 +167,4 @@ next_job now s = due_among_jobs (at_moment now s)
 
 -- the same of one slot alone
 unfoldable pub next_slot : ℕ → ℕ → Switch → DueActor
-next_slot slot now s = due_as slot (slot_due slot (at_moment now s))
+next_slot slot now s = due_in_slot slot (at_moment now s)

@@ -9,6 +9,7 @@ pub mod Bridging
 pub mod Owing
 pub mod Attempts
 pub mod Dialing
+pub mod Controlling
 pub mod Queueing
 pub mod Applications
 pub mod Channels

@@ -1,5 +1,6 @@
 -- What holds of the channels, and of the legs of originations, in every switch that a run comes to.
 use Rattle.std.specs.Prelude.{◌≡◌, ◌≢◌, ◌≤◌, ℕ, Bool, true, false, None, Some, is_some, slice_get}
+use Rattle.fs_text.specs.Texts.{Text}
 use Rattle.fs_text.specs.declared.states.State.{State}
 use Rattle.fs_text.specs.declared.states.State.TheVariants.{CsNew, CsInit, CsConsumeMedia}
 use Rattle.fs_text.specs.declared.causes.Cause.{Cause}
@@ -10,7 +11,7 @@ use Rattle.fs_bridge.specs.Hangups.{IsOneOf}
 use Rattle.fs_chan.specs.declared.chan.Chan.{Chan}
 use Rattle.fs_chan.specs.declared.peer.Direction.TheVariants.{Outbound}
 use Rattle.fs_chan.specs.declared.peer.Peer.{Peer}
-use Rattle.fs_chan.specs.declared.wait.Wait.TheVariants.{Bridged}
+use Rattle.fs_chan.specs.declared.wait.Wait.TheVariants.{Bridged, Dial}
 use Rattle.fs_chan.specs.Bridging.{awaited_by}
 use Rattle.fs_chan.specs.Changes.{is_live, HasShortFields}
 use Rattle.fs_orig.specs.declared.leg.OrigLeg.{OrigLeg}
@@ -20,10 +21,14 @@ use Rattle.fs_orig.specs.declared.verdict.Verdict.TheVariants.{Failed}
 use Rattle.fs_orig.specs.Legs.{lives}
 use Rattle.fs_orig.specs.Meaning.{IsWithCauses, IsLastToDie}
 use Rattle.fs_orig.specs.Verdicts.{verdict_of}
+use Rattle.fs_state.specs.declared.conn.Conn.{Conn}
+use Rattle.fs_state.specs.declared.conn.Control.{Control}
+use Rattle.fs_state.specs.declared.conn.Phase.TheVariants.{Ready}
 use Rattle.fs_state.specs.Outboxes.{events_in}
 use Rattle.fs_state.specs.Posting.{most_events}
-use Rattle.fs_state.specs.Switch.{Switch, chan_at, bridge_at, orig_of, job_at, outgoing_for}
+use Rattle.fs_state.specs.Switch.{Switch, chan_at, bridge_at, conn_of, orig_of, job_at, outgoing_for}
 use Rattle.fs_machine.specs.Connections.{phase_at}
+use Rattle.fs_machine.specs.Controlling.{names_target}
 use Rattle.fs_machine.specs.Owed.{AreOwed}
 use Rattle.fs_machine.specs.Step.{reads}
 
@@ -158,6 +163,21 @@ pub record OwnersWait (s : Switch) : Type 0 where
   pub wait : (slot number : ℕ) → IsOwnedBy s slot number → Awaits s slot number
   pub own : (slot number : ℕ) (c : Chan) → chan_at s slot ≡ Some c → awaited_by c ≡ Some number → IsOwnedBy s slot number
 
+-- the connection of a number is there, gives all commands, and controls the channel in a slot
+pub record IsBoundTo (s : Switch) (conn slot : ℕ) : Type 0 where
+  pub its : Conn
+  pub there : conn_of s conn ≡ Some its
+  pub ready : its.phase ≡ Ready
+  pub control : Control
+  pub has : its.control ≡ Some control
+  pub at : control.slot ≡ slot
+
+-- a channel that names a connection is live and is what that controls, and one that waits for a controller waits for one that a text names
+pub record HoldersAgree (s : Switch) : Type 0 where
+  pub live : (slot conn : ℕ) (c : Chan) → chan_at s slot ≡ Some c → c.socket ≡ Some conn → is_live c ≡ true
+  pub each : (slot conn : ℕ) (c : Chan) → chan_at s slot ≡ Some c → c.socket ≡ Some conn → IsBoundTo s conn slot
+  pub dials : (slot : ℕ) (c : Chan) (text : Text) → chan_at s slot ≡ Some c → c.wait ≡ Dial text → names_target text ≡ true
+
 -- so many events wait for a connection at most
 pub record EventsAreFew (s : Switch) : Type 0 where
   pub each : (conn : ℕ) → events_in (outgoing_for s conn) ≤ most_events
@@ -180,6 +200,7 @@ pub record IsSound (s : Switch) : Type 0 where
   pub rows : RowsAgree s
   pub bridged : BridgedWait s
   pub owners : OwnersWait s
+  pub controllers : HoldersAgree s
   pub owed : AreOwed s
   pub events : EventsAreFew s
   -- so it is once the switch has come to its end

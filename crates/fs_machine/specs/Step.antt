@@ -1,5 +1,5 @@
 -- Which entries are refused, and what the others do.
-use Rattle.std.specs.Prelude.{◌≡◌, ◌≢◌, ℕ, ◌-◌, ◌^◌, min, ◌==◌, ◌||◌, not, Bool, true, false, [], length, Option, None, Some, is_some}
+use Rattle.std.specs.Prelude.{◌≡◌, ◌≢◌, ℕ, ◌-◌, ◌^◌, min, ◌==◌, ◌||◌, not, Bool, true, false, [], length, Option, None, Some, is_some, is_none}
 use Rattle.std.specs.Prelude.{unwrap_or, slice_get, if◌then◌else◌}
 use Rattle.fs_cmd.specs.Commands.{command_of}
 use Rattle.fs_cmd.specs.Frames.{auth_request}
@@ -16,7 +16,7 @@ use Rattle.fs_state.specs.Switch.{Switch, with_new_conn, without_conn, with_fram
 use Rattle.fs_state.specs.Switch.{at_moment, after_entry}
 use Rattle.fs_machine.specs.declared.entry.Entry.{Entry}
 use Rattle.fs_machine.specs.declared.entry.Act.{Act}
-use Rattle.fs_machine.specs.declared.entry.Act.TheVariants.{Arrive, Command, Take, Close, Work, Job, Halt}
+use Rattle.fs_machine.specs.declared.entry.Act.TheVariants.{Arrive, Command, Take, Close, Dialed, Work, Job, Halt}
 use Rattle.fs_machine.specs.declared.entry.Closing.{Closing}
 use Rattle.fs_machine.specs.declared.entry.Closing.TheVariants.{EndOfInput, Sent, Failed}
 use Rattle.fs_machine.specs.declared.reply.Reply.{Reply}
@@ -26,6 +26,7 @@ use Rattle.fs_machine.specs.declared.refusal.Refusal.TheVariants as refusal
 use Rattle.fs_machine.specs.Entries.{cost_of}
 use Rattle.fs_machine.specs.Connections.{phase_at, conn_changed, parted}
 use Rattle.fs_machine.specs.Questions.{owed_to}
+use Rattle.fs_machine.specs.Controlling.{dial_at, held_through, after_dial, after_letting_go, after_leavings}
 use Rattle.fs_machine.specs.Due.{slot_due, job_due}
 use Rattle.fs_machine.specs.Work.{after_work}
 use Rattle.fs_machine.specs.Jobs.{job_done}
@@ -88,6 +89,10 @@ not_due None = Some (refusal.NotDue None)
 not_due (Some Now) = None
 not_due (Some (At moment)) = Some (refusal.NotDue (Some moment))
 
+-- why no controller can be dialed for the channel in a slot: it waits for none
+abbrev pub refused_dial : ℕ → Switch → Option Refusal
+refused_dial slot s = refused_where (is_none (dial_at s slot)) (refusal.NotDue None) None
+
 -- why a connection cannot give a command
 abbrev pub refused_command : ℕ → Switch → Option Refusal
 refused_command conn s = refused_where (not (reads (phase_at s conn))) refusal.Gone (busy (owed_to s conn))
@@ -111,6 +116,7 @@ refused_act (Command conn block) s = refused_command conn s
 refused_act (Take conn) s =
     refused_where (is_closed (phase_at s conn)) refusal.Gone (refused_where (length (waiting_for s conn) == 0) refusal.Empty None)
 refused_act (Close conn how) s = refused_close conn how s
+refused_act (Dialed slot linked) s = refused_dial slot s
 refused_act (Work slot) s = not_due (slot_due slot s)
 refused_act (Job number) s = not_due (job_due number s)
 refused_act Halt s = refused_at_end s None
@@ -142,7 +148,7 @@ ComesTo acted state reply = acted ≡ record { state = state; reply = reply }
 
 -- a connection that has come
 abbrev pub new_conn : Conn
-new_conn = record { phase = phase.Fresh; owed = None; parting = None; subs = nothing }
+new_conn = record { phase = phase.Fresh; owed = None; parting = None; control = None; subs = nothing }
 
 -- a connection has come, and is asked for the password
 abbrev pub arrived : Switch → Acted
@@ -159,21 +165,26 @@ queued_in conn s = record { state = s; reply = reply.Queued (is_some (owed_to s 
 abbrev pub taken : ℕ → Switch → Acted
 taken conn s = record { state = with_frame_taken conn s; reply = reply.Frame (unwrap_or (slice_get (waiting_for s conn) 0) []) }
 
--- the input of a connection has ended, or it is gone
+-- the input of a connection has ended, or it is gone; a channel that it holds goes on
 abbrev pub after_close : Closing → ℕ → Switch → Switch
-after_close EndOfInput conn s = conn_changed (parted parting.EndOfInput) conn s
-after_close Sent conn s = without_conn conn s
-after_close Failed conn s = without_conn conn s
+after_close EndOfInput conn s = conn_changed (parted parting.EndOfInput) conn (after_letting_go conn s)
+after_close Sent conn s = without_conn conn (after_letting_go conn s)
+after_close Failed conn s = without_conn conn (after_letting_go conn s)
 
--- what an act does
+-- what an act does by itself
+abbrev pub acted : Act → Switch → Acted
+acted Arrive s = arrived s
+acted (Command conn block) s = queued_in conn (command_done conn (command_of block) s)
+acted (Take conn) s = taken conn s
+acted (Close conn how) s = record { state = after_close how conn s; reply = reply.Closed }
+acted (Dialed slot linked) s = record { state = after_dial linked slot s; reply = reply.Dialed (held_through linked slot s) }
+acted (Work slot) s = record { state = after_work slot s; reply = reply.Worked }
+acted (Job number) s = record { state = job_done number s; reply = reply.Worked }
+acted Halt s = record { state = after_shutdown s; reply = reply.Halted }
+
+-- what an act does: behind it each connection parts whose channel has left it
 abbrev pub act_done : Act → Switch → Acted
-act_done Arrive s = arrived s
-act_done (Command conn block) s = queued_in conn (command_done conn (command_of block) s)
-act_done (Take conn) s = taken conn s
-act_done (Close conn how) s = record { state = after_close how conn s; reply = reply.Closed }
-act_done (Work slot) s = record { state = after_work slot s; reply = reply.Worked }
-act_done (Job number) s = record { state = job_done number s; reply = reply.Worked }
-act_done Halt s = record { state = after_shutdown s; reply = reply.Halted }
+act_done act s = let done = acted act s in record { state = after_leavings done.state; reply = done.reply }
 
 -- the state behind an entry, and its reply: its act is done, and its events are posted; defined also for what is refused
 unfoldable pub step : Switch → Entry → Acted

@@ -1,19 +1,21 @@
 -- The switch as a state that takes entries in turn.
-use Rattle.std.specs.Prelude.{◌≡◌, ℕ, Bool, true, false, List, [], ◌∷◌, ◌++◌, Option, None}
+use Rattle.std.specs.Prelude.{◌≡◌, ℕ, Bool, true, false, List, [], ◌∷◌, ◌++◌, Option, None, is_some}
+use Rattle.fs_state.specs.Switch.{Switch}
 use Rattle.fs_doc.specs.Reading.{Configuration}
 use Rattle.fs_doc.specs.Limits.{IsWithin}
 use Rattle.fs_machine.specs.declared.answer.Answer.{Answer}
 use Rattle.fs_machine.specs.declared.entry.Entry.{Entry}
 use Rattle.fs_machine.specs.declared.entry.Act.{Act}
-use Rattle.fs_machine.specs.declared.entry.Act.TheVariants.{Arrive, Command, Take, Close, Work, Job, Halt}
+use Rattle.fs_machine.specs.declared.entry.Act.TheVariants.{Arrive, Command, Take, Close, Dialed, Work, Job, Halt}
 use Rattle.fs_machine.specs.declared.reply.Reply.{Reply}
 use Rattle.fs_machine.specs.declared.refusal.Refusal.{Refusal}
 use Rattle.fs_machine.specs.Step.{step, refusal_of, IsRefusedFor}
 use Rattle.fs_machine.specs.Runs.{View}
 use Rattle.fs_machine.specs.Laws.{IsRun, state_after}
 use Rattle.fs_machine.specs.Concerns.{actor_of}
+use Rattle.fs_machine.specs.Controlling.{held_through}
 use Rattle.fs_machine.specs.Standing.{standing_by}
-use Rattle.fs_book.specs.Numbered.{by_count}
+use Rattle.fs_book.specs.Numbered.{by_history}
 
 -- what a machine was configured by
 abbrev pub configured : View → Configuration
@@ -43,22 +45,24 @@ pub record Refuses (config : Configuration) (log : List Entry) (entry : Entry) (
 
 -- ---- the numbers of connections
 
-abbrev pub is_arrival : Act → Bool
-is_arrival Arrive = true
-is_arrival (Command conn block) = false
-is_arrival (Take conn) = false
-is_arrival (Close conn how) = false
-is_arrival (Work slot) = false
-is_arrival (Job number) = false
-is_arrival Halt = false
+-- a connection comes by an act: it arrives, or is that of a controller which takes hold of a channel
+abbrev pub comes_by : Act → Switch → Bool
+comes_by Arrive s = true
+comes_by (Command conn block) s = false
+comes_by (Take conn) s = false
+comes_by (Close conn how) s = false
+comes_by (Dialed slot linked) s = is_some (held_through linked slot s)
+comes_by (Work slot) s = false
+comes_by (Job number) s = false
+comes_by Halt s = false
 
--- an entry by which a connection comes
-abbrev pub arrives : Entry → Bool
-arrives entry = is_arrival entry.act
+-- one comes by an entry after these
+abbrev pub comes_after : Configuration → List Entry → Entry → Bool
+comes_after config log entry = comes_by entry.act (state_after config log)
 
 -- the number that it opens: connections are numbered from 1 on, in their order
 abbrev pub opens : Configuration → List Entry → Entry → Option ℕ
-opens config log entry = by_count arrives log entry
+opens config log entry = by_history (comes_after config) log entry
 
 -- the connection whose entry it is
 abbrev pub names : Entry → Option ℕ

@@ -7,6 +7,7 @@ ghost use Rattle.fs_machine.specs.Step as spec;
 
 use crate::commands::do_command;
 use crate::connections::part;
+use crate::controlling::{controlled_slot, end_dial, let_channel_go, let_go_in, part_left};
 use crate::entry::{Act, Closing};
 use crate::jobs::do_job;
 use crate::questions::owed_to;
@@ -20,12 +21,24 @@ use fs_plan::Dialplan;
 use fs_state::{Conn, Draft, Parting, Phase};
 use fs_text::{Memory, Txt};
 
-/// Does an act, by the dialplan of the configuration.
+/// Does an act, by the dialplan of the configuration; behind it each connection parts whose channel has left it.
 pub(crate) fn do_act(draft: &mut Draft<'_>, dialplan: &Dialplan, act: &Act) -> Result<Reply, Memory>
     requires outbox { draft.old.delta.outbox ≡ Unchanged }
     requires dialplan { dialplan.now ≡ draft.old.base.contexts }
     ensures base { draft.new.base ≡ draft.old.base }
     ensures ok { IfOk result (spec.ComesTo (spec.act_done act.now (drafted draft.old)) (drafted draft.new)) }
+{
+    let reply = act_alone(draft, dialplan, act)?;
+    part_left(draft)?;
+    Ok(reply)
+}
+
+// Does an act by itself.
+fn act_alone(draft: &mut Draft<'_>, dialplan: &Dialplan, act: &Act) -> Result<Reply, Memory>
+    requires outbox { draft.old.delta.outbox ≡ Unchanged }
+    requires dialplan { dialplan.now ≡ draft.old.base.contexts }
+    ensures base { draft.new.base ≡ draft.old.base }
+    ensures ok { IfOk result (spec.ComesTo (spec.acted act.now (drafted draft.old)) (drafted draft.new)) }
 {
     match act {
         Act::Arrive => arrive(draft),
@@ -39,6 +52,7 @@ pub(crate) fn do_act(draft: &mut Draft<'_>, dialplan: &Dialplan, act: &Act) -> R
             close(draft, *conn, *how)?;
             Ok(Reply::Closed)
         }
+        Act::Dialed { slot, linked } => Ok(Reply::Dialed(end_dial(draft, *slot, *linked)?)),
         Act::Work { slot } => {
             work(draft, dialplan, *slot)?;
             Ok(Reply::Worked)
@@ -63,6 +77,7 @@ fn arrive(draft: &mut Draft<'_>) -> Result<Reply, Memory>
         phase: Phase::Fresh,
         owed: None,
         parting: None,
+        control: None,
         subs: SharedSubs::nothing(),
     })?;
     let request = auth_request(draft.alloc())?;
@@ -84,13 +99,21 @@ fn take(draft: &mut Draft<'_>, conn: u32) -> Result<Reply, Memory>
     Ok(Reply::Frame(frame))
 }
 
-// Ends a connection.
+// Ends a connection; a channel that it holds goes on.
+#[tactic(auto, using(crate::proofs::ControlLemmas::gone_first))]
 fn close(draft: &mut Draft<'_>, conn: u32, how: Closing) -> Result<(), Memory>
     requires { draft.old.delta.outbox ≡ Unchanged }
     ensures { Brings result draft.old draft.new (spec.after_close how conn (drafted draft.old)) }
 {
     match how {
-        Closing::EndOfInput => part(draft, conn, Parting::EndOfInput),
-        Closing::Sent | Closing::Failed => draft.drop_conn(conn),
+        Closing::EndOfInput => {
+            let_channel_go(draft, conn)?;
+            part(draft, conn, Parting::EndOfInput)
+        }
+        Closing::Sent | Closing::Failed => {
+            let slot = controlled_slot(draft, conn);
+            draft.drop_conn(conn)?;
+            let_go_in(draft, conn, slot)
+        }
     }
 }

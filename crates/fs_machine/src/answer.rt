@@ -1,6 +1,6 @@
 //! What a submitted entry is answered.
 
-use crate::due::{due_job, is_now, slot_due};
+use crate::due::{due_job, is_due};
 use crate::entry::Act;
 use crate::machine::Machine;
 use crate::reply::Reply;
@@ -36,7 +36,7 @@ impl Machine {
                 }
                 wakes
             }
-            Act::Work { .. } | Act::Job { .. } | Act::Halt => {
+            Act::Dialed { .. } | Act::Work { .. } | Act::Job { .. } | Act::Halt => {
                 let mut wakes = busy_in(core, false);
                 add_conns(&mut wakes, core);
                 wakes
@@ -59,7 +59,7 @@ fn busy_in(core: &Core, may_begin_jobs: bool) -> Wakes {
 // The slots that have something to do at once.
 fn add_slots(wakes: &mut Wakes, seen: &Seen<'_>) {
     for slot in 0..seen.filled_slots() {
-        if is_now(slot_due(seen, slot)) {
+        if is_due(seen, slot) {
             wakes.add_slot(slot);
         }
     }

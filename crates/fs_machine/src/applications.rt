@@ -10,6 +10,7 @@ ghost use Rattle.fs_app.specs.Applications.{IsShortApplication};
 ghost use Rattle.fs_machine.specs.Applications as spec;
 
 use crate::channels::{ChanChange, change_chan};
+use crate::controlling::seek_controller;
 use crate::dialing::dial_bridge;
 use crate::queueing::{answer_queue, enter_queue};
 use fs_app::Application;
@@ -117,6 +118,7 @@ fn apply_effect(draft: &mut Draft<'_>, slot: u16, asked: &Application) -> Result
         Application::Transfer { to } => draft.transfer(slot, to.copy()?),
         Application::FifoIn { name } => enter_queue(draft, slot, name),
         Application::FifoOut { name, waits } => answer_queue(draft, slot, name, *waits),
+        Application::Socket { target } => seek_controller(draft, slot, target),
         Application::Unknown => draft.hang_up(slot, Cause::DestinationOutOfOrder),
     }
 }

@@ -30,6 +30,8 @@ pub(crate) enum ChanChange<'a> {
     Queue { name: &'a Txt, place: u64 },
     /// It waits for a caller in the queue of a name.
     AwaitCaller { name: &'a Txt },
+    /// It waits until the controller that a text names was dialed.
+    AwaitDial { text: &'a Txt },
     /// It is a leg that has won, and no leg any more: it is in the media of its bridge.
     EnterMedia,
     /// It is a leg that has won, and no leg any more: it has one thing to run, or is to be routed.
@@ -62,6 +64,7 @@ fn change_by(alloc: Global, chan: &mut Chan, change: ChanChange<'_>) -> Result<(
         ChanChange::AwaitLegs { orig } => chan.await_legs(orig),
         ChanChange::Queue { name, place } => chan.queue(name.copy()?, place),
         ChanChange::AwaitCaller { name } => chan.await_caller(name.copy()?),
+        ChanChange::AwaitDial { text } => chan.await_dial(text.copy()?),
         ChanChange::EnterMedia => chan.enter_media(),
         ChanChange::Win { winner } => win_by(alloc, chan, winner)?,
     }

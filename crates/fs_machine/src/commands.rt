@@ -4,16 +4,19 @@ ghost use Rattle.std.specs.Prelude.{◌≡◌, [], ◌∷◌, Some, codes, IfOk}
 ghost use Rattle.std.specs.Option.{option_copied};
 ghost use Rattle.std.specs.Str.{bytes_eq};
 ghost use Rattle.fs_cmd.specs.Commands.{read_of};
-ghost use Rattle.fs_cmd.specs.Frames.{not_found, job_begun, reply as reply_of};
+ghost use Rattle.fs_cmd.specs.Commands as commands;
+ghost use Rattle.fs_cmd.specs.Frames.{not_found, denied, job_begun, reply as reply_of};
 ghost use Rattle.fs_api.specs.Readings.{api_of};
 ghost use Rattle.fs_state.specs.declared.conn.Phase.TheVariants as phase;
 ghost use Rattle.fs_state.specs.Drafts.{drafted, Brings};
 ghost use Rattle.fs_machine.specs.Api.{done_by};
 ghost use Rattle.fs_machine.specs.declared.owing.Giver.TheVariants as giver;
 ghost use Rattle.fs_machine.specs.Commands as spec;
+ghost use Rattle.fs_machine.specs.Controlling.{farewell as farewell_of, greeting_for};
 
 use crate::api::run_api;
 use crate::connections::{admit, part, phase_at};
+use crate::controlling::{farewell, greeting_by, let_channel_go, names_all};
 use crate::messages::send_message;
 use crate::owing::{Giver, begin_background};
 use crate::replies::give_reply;
@@ -21,8 +24,8 @@ use crate::subscribing::{
     add_filter, delete_filters, fall_silent, refuse_filter, subscribe, unsubscribe,
 };
 use fs_api::{Api, echoed};
-use fs_cmd::{Command, api_reply, notice, reply};
-use fs_state::{Draft, Parting, Phase};
+use fs_cmd::{Command, api_reply, reply};
+use fs_state::{Control, Draft, Parting, Phase};
 use fs_text::{Memory, Txt};
 use std::alloc::Global;
 
@@ -63,7 +66,7 @@ fn do_when_ready(draft: &mut Draft<'_>, conn: u32, command: Command<'_>) -> Resu
 {
     match command {
         Command::Exit => begin_ending(draft, conn, Parting::Exit, b"+OK bye"),
-        Command::Api { text } => respond(draft, conn, text),
+        Command::Api { text } => respond_within(draft, conn, text),
         Command::Event { form, names } => subscribe(draft, conn, form, names),
         Command::Nixevent { names } => unsubscribe(draft, conn, names),
         Command::Noevents => fall_silent(draft, conn),
@@ -71,8 +74,9 @@ fn do_when_ready(draft: &mut Draft<'_>, conn: u32, command: Command<'_>) -> Resu
         Command::FilterDelete { header, value } => delete_filters(draft, conn, header, value),
         Command::BadFilter => refuse_filter(draft, conn),
         Command::Sendmsg { uuid, message } => send_message(draft, conn, uuid, message),
-        Command::Bgapi { text, job } => run_behind(draft, conn, job, text),
-        Command::Auth { .. } | Command::Connect | Command::Unknown => refuse(draft, conn),
+        Command::Bgapi { text, job } => run_behind_within(draft, conn, job, text),
+        Command::Connect => greet(draft, conn),
+        Command::Auth { .. } | Command::Unknown => refuse(draft, conn),
     }
 }
 
@@ -88,10 +92,94 @@ fn refuse(draft: &mut Draft<'_>, conn: u32) -> Result<(), Memory>
 fn begin_ending(draft: &mut Draft<'_>, conn: u32, why: Parting, text: &[u8]) -> Result<(), Memory>
     ensures { Brings result draft.old draft.new (spec.after_dismissal conn why text.now (drafted draft.old)) }
 {
+    let frame = farewell_to(draft, conn)?;
+    let_channel_go(draft, conn)?;
     part(draft, conn, why)?;
     give_reply(draft, conn, text)?;
-    let frame = notice(draft.alloc())?;
     draft.give_notice(conn, frame)
+}
+
+// The notice of a connection, which names the channel that it controls.
+fn farewell_to(draft: &Draft<'_>, conn: u32) -> Result<Txt, Memory>
+    ensures { IfOk result (λ frame. frame ≡ farewell_of (spec.control_at (drafted draft.now) conn)) }
+{
+    farewell(draft.alloc(), control_at(draft, conn))
+}
+
+// What a connection controls.
+fn control_at<'a>(draft: &'a Draft<'_>, conn: u32) -> Option<&'a Control>
+    ensures { option_copied result ≡ spec.control_at (drafted draft.now) conn }
+{
+    draft.conn(conn)?.control.as_ref()
+}
+
+// ---- what controllers may command
+
+// Whether a connection may command all that there is.
+fn may_command_all(draft: &Draft<'_>, conn: u32) -> Result<bool, Memory>
+    ensures { IfOk result (λ may. may ≡ spec.may_command_all (spec.control_at (drafted draft.now) conn)) }
+{
+    match control_at(draft, conn) {
+        Some(control) => names_all(draft.alloc(), &control.dialed),
+        None => Ok(true),
+    }
+}
+
+// Replies that a command is not for the controller of one channel.
+#[tactic(auto, unfolding(fs_cmd::specs::Frames::denied))]
+fn deny(draft: &mut Draft<'_>, conn: u32) -> Result<(), Memory>
+    ensures { Brings result draft.old draft.new (spec.with_reply conn denied (drafted draft.old)) }
+{
+    give_reply(draft, conn, b"-ERR permission denied")
+}
+
+// Runs an api command, unless it is not for the controller of one channel.
+fn respond_within(draft: &mut Draft<'_>, conn: u32, text: &[u8]) -> Result<(), Memory>
+    ensures { Brings result draft.old draft.new
+        (spec.command_done_in phase.Ready conn (commands.Api text.now) (drafted draft.old)) }
+{
+    if may_command_all(draft, conn)? {
+        respond(draft, conn, text)
+    } else {
+        deny(draft, conn)
+    }
+}
+
+// Lets a job run a command in the background, unless it is not for the controller of one channel.
+fn run_behind_within(
+    draft: &mut Draft<'_>,
+    conn: u32,
+    given: Option<&[u8]>,
+    text: &[u8],
+) -> Result<(), Memory>
+    ensures { Brings result draft.old draft.new
+        (spec.command_done_in phase.Ready conn (commands.Bgapi text.now (option_copied given.entry)) (drafted draft.old)) }
+{
+    if may_command_all(draft, conn)? {
+        run_behind(draft, conn, given, text)
+    } else {
+        deny(draft, conn)
+    }
+}
+
+// Tells a controller of its channel.
+fn greet(draft: &mut Draft<'_>, conn: u32) -> Result<(), Memory>
+    ensures { Brings result draft.old draft.new (spec.after_connect conn (drafted draft.old)) }
+{
+    match greeting_to(draft, conn)? {
+        Some(greeting) => draft.give_now(conn, greeting),
+        None => refuse(draft, conn),
+    }
+}
+
+// What a controller is told of its channel, if it has one.
+fn greeting_to(draft: &Draft<'_>, conn: u32) -> Result<Option<Txt>, Memory>
+    ensures { IfOk result (λ text. text ≡ greeting_for (spec.control_at (drafted draft.now) conn) (drafted draft.now)) }
+{
+    match control_at(draft, conn) {
+        Some(control) => greeting_by(draft.alloc(), &control.dialed, draft.chan(control.slot)),
+        None => Ok(None),
+    }
 }
 
 // Judges the password that is offered.

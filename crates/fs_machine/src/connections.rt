@@ -37,6 +37,7 @@ pub(crate) fn part(draft: &mut Draft<'_>, conn: u32, why: Parting) -> Result<(),
         phase: Phase::Ending,
         parting: Some(why),
         owed: there.owed,
+        control: there.copy_control()?,
         subs: SharedSubs::nothing(),
     };
     draft.set_conn(conn, parted)

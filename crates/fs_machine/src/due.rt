@@ -1,14 +1,14 @@
 //! When channels and jobs have something to do by themselves.
 
-ghost use Rattle.std.specs.Prelude.{◌≡◌};
+ghost use Rattle.std.specs.Prelude.{◌≡◌, Some};
 ghost use Rattle.std.specs.Option.{option_copied};
 ghost use Rattle.fs_chan.specs.Work as chan;
 ghost use Rattle.fs_seats.specs.Seats.{held_in};
 ghost use Rattle.fs_seats.specs.Least as least;
-ghost use Rattle.fs_state.specs.Switch.{orig_of};
+ghost use Rattle.fs_state.specs.Switch.{chan_at, orig_of};
 ghost use Rattle.fs_machine.specs.Due as spec;
 
-use fs_chan::Due;
+use fs_chan::{Chan, Due};
 use fs_seats::Numbered;
 use fs_state::{Job, JobWork, Seen};
 use fs_text::Txt;
@@ -18,6 +18,8 @@ use fs_text::Txt;
 pub enum DueActor {
     /// The channel in this slot.
     Slot(u16),
+    /// The channel in this slot, which waits until a controller was dialed.
+    Dial(u16),
     /// The job of this number.
     Job(u64),
     /// Nobody before this moment, in microseconds.
@@ -32,7 +34,13 @@ pub enum DueActor {
 pub(crate) fn slot_due(seen: &Seen<'_>, slot: u16) -> Option<Due>
     ensures { result ≡ spec.slot_due slot seen.now }
 {
-    let chan = seen.chan(slot)?;
+    chan_due(seen, seen.chan(slot)?)
+}
+
+// When a channel has something to do.
+fn chan_due(seen: &Seen<'_>, chan: &Chan) -> Option<Due>
+    ensures { result ≡ spec.chan_due seen.now (Some chan.now) }
+{
     match (chan.awaited(), chan.wanted_queue()) {
         (Some(orig), _) => orig_due(seen, orig),
         (None, Some(name)) => caller_due(seen, name),
@@ -96,7 +104,7 @@ pub(crate) fn due_among_all(seen: &Seen<'_>) -> DueActor
     ensures { result ≡ spec.due_among_all seen.now }
 {
     if let Some(slot) = due_slot(seen) {
-        return DueActor::Slot(slot);
+        return turn_of(seen, slot);
     }
     if let Some(job) = due_job(seen) {
         return DueActor::Job(job);
@@ -116,8 +124,11 @@ pub(crate) fn due_among_jobs(seen: &Seen<'_>) -> DueActor
 
 /// The same of one slot alone.
 pub(crate) fn due_in_slot(seen: &Seen<'_>, slot: u16) -> DueActor
-    ensures { result ≡ spec.due_as slot (spec.slot_due slot seen.now) }
+    ensures { result ≡ spec.due_in_slot slot seen.now }
 {
+    if dials(seen, slot) {
+        return DueActor::Dial(slot);
+    }
     match slot_due(seen, slot) {
         None => DueActor::Never,
         Some(Due::Now) => DueActor::Slot(slot),
@@ -131,11 +142,42 @@ fn due_slot(seen: &Seen<'_>) -> Option<u16>
     ensures { result ≡ spec.due_slot seen.now }
 {
     for slot in 0..seen.filled_slots() {
-        if is_now(slot_due(seen, slot)) {
+        if is_due(seen, slot) {
             return Some(slot);
         }
     }
     None
+}
+
+/// Whether the channel in a slot has something to do at once, or waits until a controller was dialed.
+pub(crate) fn is_due(seen: &Seen<'_>, slot: u16) -> bool
+    ensures { result ≡ spec.is_due seen.now (chan_at seen.now slot) }
+{
+    match seen.chan(slot) {
+        Some(chan) => is_now(chan_due(seen, chan)) || chan.dial_text().is_some(),
+        None => false,
+    }
+}
+
+// The channel in a slot has something to do, or waits until a controller was dialed.
+fn turn_of(seen: &Seen<'_>, slot: u16) -> DueActor
+    ensures { result ≡ spec.turn_of seen.now slot }
+{
+    if dials(seen, slot) {
+        DueActor::Dial(slot)
+    } else {
+        DueActor::Slot(slot)
+    }
+}
+
+/// Whether the channel in a slot waits until a controller was dialed.
+pub(crate) fn dials(seen: &Seen<'_>, slot: u16) -> bool
+    ensures { result ≡ spec.dials (chan_at seen.now slot) }
+{
+    match seen.chan(slot) {
+        Some(chan) => chan.dial_text().is_some(),
+        None => false,
+    }
 }
 
 /// The least number of a job that has something to do.
@@ -193,8 +235,8 @@ fn row_due(seen: &Seen<'_>, row: Option<&Numbered<Job>>) -> Option<Due>
     work_due(seen, &row?.held.work)
 }
 
-/// Whether it is at once.
-pub(crate) fn is_now(due: Option<Due>) -> bool
+// Whether it is at once.
+fn is_now(due: Option<Due>) -> bool
     ensures { result ≡ spec.is_now due }
 {
     matches!(due, Some(Due::Now))

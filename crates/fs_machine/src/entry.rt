@@ -37,6 +37,8 @@ pub enum Act {
     Take { conn: u32 },
     /// A connection comes to its end.
     Close { conn: u32, how: Closing },
+    /// The controller for whom the channel in a slot waits was dialed, and there is a link to it or there is none.
+    Dialed { slot: u16, linked: bool },
     /// The channel in a slot does what it has to do by itself.
     Work { slot: u16 },
     /// The job of a number does so.
@@ -94,6 +96,10 @@ impl Act {
             Act::Close { conn, how } => Act::Close {
                 conn: *conn,
                 how: *how,
+            },
+            Act::Dialed { slot, linked } => Act::Dialed {
+                slot: *slot,
+                linked: *linked,
             },
             Act::Work { slot } => Act::Work { slot: *slot },
             Act::Job { job } => Act::Job { job: *job },

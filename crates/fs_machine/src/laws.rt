@@ -98,7 +98,7 @@ pub fn winners_can_join()
 {}
 
 /// Each entry of a run is for each connection one of three things: its own, one of others, or the one by which it
-/// comes.
+/// comes, be it that it arrives or that it is the connection of a controller which takes hold of a channel.
 pub fn concerns_each_connection()
     ensures { (config : Configuration) (entries : List Entry) (entry : Entry) (conn : ℕ) → IsLimited config
         → IsRun config (entries ++ entry ∷ []) → Concerns conn (state_after config entries) entry }

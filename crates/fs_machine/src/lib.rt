@@ -11,6 +11,7 @@ mod call;
 mod channels;
 mod commands;
 mod connections;
+mod controlling;
 mod dialing;
 mod due;
 mod dumping;

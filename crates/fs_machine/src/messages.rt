@@ -1,6 +1,6 @@
 //! Messages that clients send to channels.
 
-ghost use Rattle.std.specs.Prelude.{◌≡◌, IfOk};
+ghost use Rattle.std.specs.Prelude.{◌≡◌, None, IfOk};
 ghost use Rattle.std.specs.Option.{option_copied};
 ghost use Rattle.fs_cmd.specs.Commands.{message_read};
 ghost use Rattle.fs_cmd.specs.Frames.{invalid_session};
@@ -25,9 +25,60 @@ pub(crate) fn send_message(
     ensures { Brings result draft.old draft.new
         (spec.message_sent conn (option_copied uuid.entry) (message_read message.entry) (drafted draft.old)) }
 {
-    let Some(uuid) = uuid else {
-        return refuse_session(draft, conn, b"");
+    match uuid {
+        Some(uuid) => send_to(draft, conn, uuid, message),
+        None => send_to_own(draft, conn, message),
+    }
+}
+
+// Does a message to the channel that a connection controls.
+fn send_to_own(draft: &mut Draft<'_>, conn: u32, message: Message<'_>) -> Result<(), Memory>
+    ensures { Brings result draft.old draft.new
+        (spec.message_sent conn None (message_read message.entry) (drafted draft.old)) }
+{
+    let own = controlled_uuid(draft, conn)?;
+    send_to_named(draft, conn, own.as_ref(), message)
+}
+
+// Does a message to the live channel of an identifier, if one is named.
+fn send_to_named(
+    draft: &mut Draft<'_>,
+    conn: u32,
+    uuid: Option<&Txt>,
+    message: Message<'_>,
+) -> Result<(), Memory>
+    ensures { Brings result draft.old draft.new
+        (spec.message_done_to conn (option_copied uuid.entry) (message_read message.entry) (drafted draft.old)) }
+{
+    match uuid {
+        Some(uuid) => send_to(draft, conn, uuid.as_bytes(), message),
+        None => refuse_session(draft, conn, b""),
+    }
+}
+
+// The identifier of the channel that a connection controls, if it controls one.
+fn controlled_uuid(draft: &Draft<'_>, conn: u32) -> Result<Option<Txt>, Memory>
+    ensures { IfOk result (λ uuid. uuid ≡ spec.controlled_uuid (spec.control_at (drafted draft.now) conn)) }
+{
+    let Some(there) = draft.conn(conn) else {
+        return Ok(None);
     };
+    match &there.control {
+        Some(control) => Ok(Some(control.uuid.copy()?)),
+        None => Ok(None),
+    }
+}
+
+// Does a message to the live channel of an identifier, if there is one.
+fn send_to(
+    draft: &mut Draft<'_>,
+    conn: u32,
+    uuid: &[u8],
+    message: Message<'_>,
+) -> Result<(), Memory>
+    ensures { Brings result draft.old draft.new
+        (spec.message_done_for conn uuid.now (message_read message.entry) (drafted draft.old)) }
+{
     match draft.slot_named(uuid) {
         Some(slot) => do_message(draft, conn, uuid, slot, message),
         None => refuse_session(draft, conn, uuid),

@@ -5,6 +5,8 @@ ghost use Rattle.fs_state.specs.Drafts.{drafted};
 ghost use Rattle.fs_state.specs.Switch.{chan_at, waiting_for, at_moment};
 ghost use Rattle.fs_machine.specs.declared.due.DueActor.TheVariants as actor;
 ghost use Rattle.fs_machine.specs.Connections as connections;
+ghost use Rattle.std.specs.Option.{option_copied};
+ghost use Rattle.fs_machine.specs.Controlling.{dial_at};
 ghost use Rattle.fs_machine.specs.Due as due;
 ghost use Rattle.fs_machine.specs.Events.{happened, events_of, CountsAll, CountsEvents, CountsHangups};
 ghost use Rattle.fs_machine.specs.Questions as spec;
@@ -17,6 +19,7 @@ use crate::machine::Machine;
 use crate::refusal::Refusal;
 use crate::refused::reads;
 use fs_state::{Core, Counts, Draft, Parting, Phase, Seen};
+use fs_text::Txt;
 
 impl Machine {
     /// The least slot, or else the least job, that has something to do by itself at a moment, or the next moment at
@@ -52,6 +55,13 @@ impl Machine {
         ensures { result ≡ at_moment now (state_of self.now) }
     {
         Seen::of(&self.core, now)
+    }
+
+    /// The text that names the controller for whom the channel in a slot waits, if it waits for one.
+    pub fn dial_text(&self, slot: u16) -> Option<&Txt>
+        ensures { option_copied result ≡ dial_at (state_of self.now) slot }
+    {
+        self.core.chan(slot)?.dial_text()
     }
 
     /// Whether a slot holds a channel.

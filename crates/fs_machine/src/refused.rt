@@ -7,7 +7,7 @@ ghost use Rattle.fs_machine.specs.Questions as questions;
 ghost use Rattle.fs_machine.specs.Step as spec;
 
 use crate::connections::phase_of;
-use crate::due::{job_due, slot_due};
+use crate::due::{dials, job_due, slot_due};
 use crate::entry::{Act, Closing};
 use crate::refusal::Refusal;
 use fs_chan::Due;
@@ -22,6 +22,7 @@ pub(crate) fn refused_act(seen: &Seen<'_>, act: &Act) -> Option<Refusal>
         Act::Command { conn, .. } => refused_command(seen, *conn),
         Act::Take { conn } => refused_take(seen, *conn),
         Act::Close { conn, how } => refused_close(seen, *conn, *how),
+        Act::Dialed { slot, .. } => refused_dial(seen, *slot),
         Act::Work { slot } => not_due(slot_due(seen, *slot)),
         Act::Job { job } => not_due(job_due(seen, *job)),
         Act::Halt => refused_halt(seen),
@@ -83,6 +84,15 @@ fn refused_close(seen: &Seen<'_>, conn: u32, how: Closing) -> Option<Refusal>
         Closing::Failed => None,
         Closing::Sent => unsent(seen, conn),
     }
+}
+
+fn refused_dial(seen: &Seen<'_>, slot: u16) -> Option<Refusal>
+    ensures { result ≡ spec.refused_dial slot seen.now }
+{
+    if dials(seen, slot) {
+        return None;
+    }
+    Some(Refusal::NotDue { next: None })
 }
 
 // That a connection is still to be sent something, or may give commands, if so.

@@ -13,6 +13,8 @@ pub enum Reply {
     Frame(Txt),
     /// The connection reads no further command, or is gone.
     Closed,
+    /// The connection of this number holds a channel since, or the channel went on without one.
+    Dialed(Option<u32>),
     /// A channel or a job did what it had to do.
     Worked,
     /// The switch has come to its end.

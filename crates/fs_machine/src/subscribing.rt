@@ -178,6 +178,7 @@ fn put_subs(draft: &mut Draft<'_>, conn: u32, subs: SharedSubs) -> Result<(), Me
         phase: there.phase,
         owed: there.owed,
         parting: there.parting,
+        control: there.copy_control()?,
         subs,
     };
     draft.set_conn(conn, changed)

@@ -8,8 +8,8 @@ use fs_book::Turned;
 use fs_doc::Config;
 
 impl Turned for Machine {
-    ghost use Rattle.fs_book.specs.Numbered.{by_count_once};
-    ghost use Rattle.fs_machine.specs.Turned.{Tells, Refuses, opens, names, arrives};
+    ghost use Rattle.fs_book.specs.Numbered.{by_history_once};
+    ghost use Rattle.fs_machine.specs.Turned.{Tells, Refuses, opens, names, comes_after};
 
     type Start = Config;
 
@@ -37,7 +37,7 @@ impl Turned for Machine {
 
     ghost names = { names };
 
-    ghost opens_once = { by_count_once arrives };
+    ghost opens_once = { by_history_once comes_after };
 
     ghost fits_longer = { λ _ _ _ _ _ fit. fit };
 

@@ -1,5 +1,5 @@
 -- What a turn that is refused tells, to whom it is due, and what comes of several tries.
-use Rattle.std.proofs.Common.{◌≡◌, ◌≢◌, ℕ, Bool, true, false, List, [], ◌∷◌, ◌++◌, Option, None, Some, Result, Ok, Err, refl, sym, ap, subst, ◌∙◌}
+use Rattle.std.proofs.Common.{◌≡◌, ◌≢◌, ℕ, Bool, true, false, List, [], ◌∷◌, ◌++◌, Option, None, Some, Result, Ok, Err, inl, inr, refl, sym, ap, subst, ◌∙◌}
 use Rattle.std.specs.Prelude.{◌&&◌, ◌==◌, if◌then◌else◌, count_by, is_some, is_none}
 use Prim.Native.Nat.{zero, suc}
 use mathlib.Core.List.{IsPrefix}
@@ -10,7 +10,7 @@ use Rattle.fs_chan.specs.declared.due.Due.TheVariants.{Now, At}
 use Rattle.fs_seats.specs.declared.numbered.Numbered.{Numbered}
 use Rattle.fs_seats.specs.Seats.{held_in}
 use Rattle.fs_state.specs.declared.job.Job.{Job}
-use Rattle.fs_state.specs.Switch.{Switch, is_full, at_moment}
+use Rattle.fs_state.specs.Switch.{Switch, chan_at, is_full, at_moment}
 use Rattle.fs_machine.specs.declared.entry.Entry.{Entry}
 use Rattle.fs_machine.specs.declared.entry.Act.{Act}
 use Rattle.fs_machine.specs.declared.entry.Act.TheVariants as act
@@ -18,7 +18,7 @@ use Rattle.fs_machine.specs.declared.due.DueActor.{DueActor}
 use Rattle.fs_machine.specs.declared.due.DueActor.TheVariants as actor
 use Rattle.fs_machine.specs.declared.refusal.Refusal.{Refusal}
 use Rattle.fs_machine.specs.declared.refusal.Refusal.TheVariants as refusal
-use Rattle.fs_machine.specs.Due.{next_slot, next_job, slot_due, due_job, first_job_moment, due_as, later_or_never, actor_or}
+use Rattle.fs_machine.specs.Due.{next_slot, next_job, slot_due, dials, due_job, first_job_moment, due_as, later_or_never, actor_or}
 use Rattle.fs_machine.specs.Laws.{state_after}
 use Rattle.fs_machine.specs.Questions.{jobs_left}
 use Rattle.fs_machine.specs.Sound.{IsSound}
@@ -75,6 +75,11 @@ due_slot_is slot other None is = absurd (cc is)
 due_slot_is slot other (Some Now) is = cc is
 due_slot_is slot other (Some (At moment)) is = absurd (cc is)
 
+due_dial_not : (slot other : ℕ) (due : Option Moment) → due_as slot due ≢ actor.Dial other
+due_dial_not slot other None is = absurd (cc is)
+due_dial_not slot other (Some Now) is = absurd (cc is)
+due_dial_not slot other (Some (At moment)) is = absurd (cc is)
+
 due_job_not : (slot number : ℕ) (due : Option Moment) → due_as slot due ≢ actor.Job number
 due_job_not slot number None is = absurd (cc is)
 due_job_not slot number (Some Now) is = absurd (cc is)
@@ -88,17 +93,49 @@ job_not : (other : ℕ) (job moment : Option ℕ) → actor_or actor.Job job (la
 job_not other None moment is = later_not other moment is
 job_not other (Some job) moment is = absurd (cc is)
 
+later_dials_not : (other : ℕ) (moment : Option ℕ) → later_or_never moment ≢ actor.Dial other
+later_dials_not other None is = absurd (cc is)
+later_dials_not other (Some moment) is = absurd (cc is)
+
+job_dials_not : (other : ℕ) (job moment : Option ℕ) → actor_or actor.Job job (later_or_never moment) ≢ actor.Dial other
+job_dials_not other None moment is = later_dials_not other moment is
+job_dials_not other (Some job) moment is = absurd (cc is)
+
+-- whoever waits for a controller has nothing else to do
+slot_is : (waits : Bool) (own other : ℕ) (due : Option Moment) → (if waits then actor.Dial own else due_as own due) ≡ actor.Slot other →
+    own ≡ other
+slot_is true own other due is = absurd (cc is)
+slot_is false own other due is = due_slot_is own other due is
+
+dial_is : (waits : Bool) (own other : ℕ) (due : Option Moment) → (if waits then actor.Dial own else due_as own due) ≡ actor.Dial other →
+    own ≡ other
+dial_is true own other due is = cc is
+dial_is false own other due is = absurd (due_dial_not own other due is)
+
+no_job_in : (waits : Bool) (own number : ℕ) (due : Option Moment) → (if waits then actor.Dial own else due_as own due) ≢ actor.Job number
+no_job_in true own number due is = absurd (cc is)
+no_job_in false own number due is = due_job_not own number due is
+
 -- a slot that is due is that of the actor
 pub turn_of_slot : (who : Actor) (now slot : ℕ) (s : Switch) → due_of who now s ≡ actor.Slot slot → IsTurnOf who (act.Work slot)
 unfolding next_slot next_job
-turn_of_slot (Slot own) now slot s is = ap act.Work (sym (due_slot_is own slot (slot_due own (at_moment now s)) is))
+turn_of_slot (Slot own) now slot s is =
+    inl (ap act.Work (sym (slot_is (dials (chan_at s own)) own slot (slot_due own (at_moment now s)) is)))
 turn_of_slot Jobs now slot s is =
     absurd (job_not slot (due_job (at_moment now s)) (first_job_moment (at_moment now s)) is)
+
+-- so is one whose channel waits for a controller
+pub turn_of_dial : (who : Actor) (now slot : ℕ) (s : Switch) → due_of who now s ≡ actor.Dial slot → IsTurnOf who (act.Dialed slot false)
+unfolding next_slot next_job
+turn_of_dial (Slot own) now slot s is =
+    inr (ap (λ (at : ℕ). act.Dialed at false) (sym (dial_is (dials (chan_at s own)) own slot (slot_due own (at_moment now s)) is)))
+turn_of_dial Jobs now slot s is =
+    absurd (job_dials_not slot (due_job (at_moment now s)) (first_job_moment (at_moment now s)) is)
 
 -- a job is due to the jobs alone
 pub turn_of_job : (who : Actor) (now job : ℕ) (s : Switch) → due_of who now s ≡ actor.Job job → IsTurnOf who (act.Job job)
 unfolding next_slot
-turn_of_job (Slot own) now job s is = absurd (due_job_not own job (slot_due own (at_moment now s)) is)
+turn_of_job (Slot own) now job s is = absurd (no_job_in (dials (chan_at s own)) own job (slot_due own (at_moment now s)) is)
 turn_of_job Jobs now job s is = (job, refl)
 
 due_unless : (full : Option Refusal) (over : Bool) (due due' : DueActor) →
@@ -132,6 +169,10 @@ turn_judged who now s (Due (actor.Slot slot)) todo stands is =
     let same : errand.Slot slot ≡ todo = cc is in
     subst (λ (e : Errand). IsTurnOf who (act_of e)) same
     (turn_of_slot who now slot s (due_standing who now s (actor.Slot slot) stands))
+turn_judged who now s (Due (actor.Dial slot)) todo stands is =
+    let same : errand.Dial slot ≡ todo = cc is in
+    subst (λ (e : Errand). IsTurnOf who (act_of e)) same
+    (turn_of_dial who now slot s (due_standing who now s (actor.Dial slot) stands))
 turn_judged who now s (Due (actor.Job job)) todo stands is =
     let same : errand.Job job ≡ todo = cc is in
     subst (λ (e : Errand). IsTurnOf who (act_of e)) same
@@ -156,6 +197,7 @@ module _ (config : Configuration) (seen : List Entry) (mine : List ℕ) (seen' :
       let same : Idle (Some next) ≡ worked = cc is in
       subst (λ (w : Worked). Works config seen mine seen' mine' who now w) same (record { stays = stays; stands = stands })
   works_judged (Due (actor.Slot slot)) worked stands is = absurd (cc is)
+  works_judged (Due (actor.Dial slot)) worked stands is = absurd (cc is)
   works_judged (Due (actor.Job job)) worked stands is = absurd (cc is)
 
 -- ---- what comes of several tries

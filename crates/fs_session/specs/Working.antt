@@ -1,5 +1,5 @@
 -- What a turn does, and what comes of it where there is nothing to do.
-use Rattle.std.specs.Prelude.{◌≡◌, ◌≢◌, ℕ, ◌==◌, ◌&&◌, if◌then◌else◌, Bool, true, false, List, [], ◌∷◌, ◌++◌, length, Option, None, Some, Result, Ok, Err, is_some, is_none}
+use Rattle.std.specs.Prelude.{◌≡◌, ◌≢◌, ℕ, ◌==◌, ◌&&◌, if◌then◌else◌, Bool, true, false, List, [], ◌∷◌, ◌++◌, length, Option, None, Some, Result, Ok, Err, ◌⊎◌, is_some, is_none}
 use mathlib.Core.List.{IsPrefix}
 use Rattle.fs_doc.specs.Reading.{Configuration}
 use Rattle.fs_state.specs.Switch.{Switch, chan_at}
@@ -57,6 +57,7 @@ pub record TellsActor (asked : StandingOf) (config : Configuration) (log : List 
 -- the act by which this is done
 abbrev pub act_of : Errand → Act
 act_of (errand.Slot slot) = act.Work slot
+act_of (errand.Dial slot) = act.Dialed slot false
 act_of (errand.Job job) = act.Job job
 
 -- what is to be done where an actor stands so, or else what comes of its turn
@@ -66,11 +67,13 @@ judged Over = Err Stopped
 judged (Due due.Never) = Err (Idle None)
 judged (Due (due.Later next)) = Err (Idle (Some next))
 judged (Due (due.Slot slot)) = Ok (errand.Slot slot)
+judged (Due (due.Dial slot)) = Ok (errand.Dial slot)
 judged (Due (due.Job job)) = Ok (errand.Job job)
 
--- the act is a turn of this actor: the work of its slot, or that of one of the jobs
+-- the act is a turn of this actor: the work of its slot, whose channel may go on without the controller for whom it waits, or that of one
+-- of the jobs
 abbrev pub IsTurnOf : Actor → Act → Type 0
-IsTurnOf (Slot slot) done = done ≡ act.Work slot
+IsTurnOf (Slot slot) done = (done ≡ act.Work slot) ⊎ (done ≡ act.Dialed slot false)
 IsTurnOf Jobs done = (job : ℕ) × (done ≡ act.Job job)
 
 -- no later try can do better

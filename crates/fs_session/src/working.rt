@@ -14,6 +14,8 @@ use std::sync::Wait;
 
 /// Does the one thing that an actor has to do at a moment, in microseconds, if there is any.
 ///
+/// A channel that waits for a controller goes on without one: none is dialed yet.
+///
 /// A slot is tried first and looked at only where it has nothing to do, so a busy one takes one turn of the lock for
 /// each entry. It never waits for anybody but those before it at the lock.
 pub fn work_once<R: Wait>(
@@ -90,6 +92,7 @@ fn judge(standing: Standing) -> Result<Errand, Worked>
         Standing::Due(DueActor::Never) => Err(Worked::Idle { next: None }),
         Standing::Due(DueActor::Later(next)) => Err(Worked::Idle { next: Some(next) }),
         Standing::Due(DueActor::Slot(slot)) => Ok(Errand::Slot(slot)),
+        Standing::Due(DueActor::Dial(slot)) => Ok(Errand::Dial(slot)),
         Standing::Due(DueActor::Job(job)) => Ok(Errand::Job(job)),
     }
 }
@@ -122,6 +125,10 @@ fn act_of(errand: Errand) -> Act
 {
     match errand {
         Errand::Slot(slot) => Act::Work { slot },
+        Errand::Dial(slot) => Act::Dialed {
+            slot,
+            linked: false,
+        },
         Errand::Job(job) => Act::Job { job },
     }
 }

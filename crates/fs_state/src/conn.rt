@@ -1,7 +1,7 @@
 //! Connections.
 
 use fs_filter::SharedSubs;
-use fs_text::Memory;
+use fs_text::{Memory, Txt};
 
 /// How far a connection has come.
 #[derive(Clone, Copy, Debug, PartialEq, Eq)]
@@ -27,6 +27,34 @@ pub enum Parting {
     EndOfInput,
     /// The end of the switch.
     Stopped,
+    /// The channel that it controlled has left it.
+    ChannelLeft,
+}
+
+/// The channel that a connection controls, for which it was dialed.
+#[derive(Drop)]
+pub struct Control {
+    /// The slot of the channel.
+    pub slot: u16,
+    /// Its identifier.
+    pub uuid: Txt,
+    /// The text that named the controller.
+    pub dialed: Txt,
+}
+
+impl Control {
+    ghost use Rattle.std.specs.Prelude.{◌≡◌, IfOk};
+
+    /// The same once more, in constant time.
+    pub fn copy(&self) -> Result<Control, Memory>
+        ensures { IfOk result (λ control. control ≡ self.now) }
+    {
+        Ok(Control {
+            slot: self.slot,
+            uuid: self.uuid.copy()?,
+            dialed: self.dialed.copy()?,
+        })
+    }
 }
 
 /// A connection of the event socket.
@@ -38,6 +66,8 @@ pub struct Conn {
     pub owed: Option<u64>,
     /// Why it is ending, where it is.
     pub parting: Option<Parting>,
+    /// The channel that it controls, if it was dialed for one.
+    pub control: Option<Control>,
     /// The events that it subscribed, and its filters.
     pub subs: SharedSubs,
 }
@@ -53,7 +83,18 @@ impl Conn {
             phase: self.phase,
             owed: self.owed,
             parting: self.parting,
+            control: self.copy_control()?,
             subs: self.subs.copy()?,
         })
+    }
+
+    /// The channel that it controls, once more.
+    pub fn copy_control(&self) -> Result<Option<Control>, Memory>
+        ensures { IfOk result (λ control. control ≡ self.now.control) }
+    {
+        match &self.control {
+            Some(control) => Ok(Some(control.copy()?)),
+            None => Ok(None),
+        }
     }
 }

@@ -180,6 +180,13 @@ impl<'a> Draft<'a> {
     }
 
     /// It gets a notice, behind all else.
+    pub fn give_notice_to(&mut self, conn: u64, frame: Txt) -> Result<(), Memory>
+        ensures { Brings result self.old self.new (spec.with_notice conn frame (drafted self.old)) }
+    {
+        self.delta.notices.push_to(conn, frame)
+    }
+
+    /// Gives a connection a notice, behind all else.
     pub fn give_notice(&mut self, conn: u32, frame: Txt) -> Result<(), Memory>
         ensures { Brings result self.old self.new (spec.with_notice conn frame (drafted self.old)) }
     {
@@ -538,8 +545,37 @@ impl<'a> Draft<'a> {
         self.conns().lend_row(u64::from(number))
     }
 
+    /// What stands at a seat for a connection.
+    pub fn conn_at(&self, seat: usize) -> Option<&Numbered<Conn>>
+        ensures { option_copied result ≡ spec.conn_at (drafted self.now) seat }
+    {
+        self.conns().lend(seat)
+    }
+
+    /// How many seats for connections are filled, at most: from this one on there is no connection.
+    pub fn filled_conns(&self) -> usize
+        ensures within { result ≤ length (drafted self.now).conns }
+        ensures empty { IsEmptyFrom result (drafted self.now).conns }
+    {
+        self.conns().filled()
+    }
+
+    /// Whether each seat for a connection is taken.
+    pub fn is_full_of_conns(&self) -> bool
+        ensures { result ≡ spec.is_full_of_conns (drafted self.now) }
+    {
+        self.conns().least_free(0).is_none()
+    }
+
+    /// The number of the connection that comes next.
+    pub fn coming_conn(&self) -> u32
+        ensures { result ≡ (numbers.with_conn (drafted self.now).drawn).conns }
+    {
+        self.delta.drawn.with_conn().conns
+    }
+
     /// Puts a connection at a seat.
-    pub(crate) fn put_conn_at(&mut self, seat: usize, row: Numbered<Conn>) -> Result<(), Memory>
+    pub fn put_conn_at(&mut self, seat: usize, row: Numbered<Conn>) -> Result<(), Memory>
         ensures { Brings result self.old self.new (spec.with_conn_at seat row (drafted self.old)) }
     {
         let core = self.core;

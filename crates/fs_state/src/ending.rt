@@ -79,6 +79,7 @@ fn released(conn: &Conn) -> Result<Conn, Memory>
             phase: Phase::Ending,
             owed: None,
             parting: Some(Parting::Stopped),
+            control: conn.copy_control()?,
             subs: SharedSubs::nothing(),
         }),
         Phase::Ending | Phase::Closed => {

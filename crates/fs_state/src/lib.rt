@@ -33,7 +33,7 @@ mod switch;
 mod telling;
 
 pub use blank::Blank;
-pub use conn::{Conn, Parting, Phase};
+pub use conn::{Conn, Control, Parting, Phase};
 pub use counts::Counts;
 pub use delta::{Delta, OutboxChange};
 pub use draft::Draft;

@@ -12,7 +12,7 @@ use mathlib.Core.List.{IsPrefix}
 use mathlib.Core.Option.{some, some-ne-none, some-injective}
 use lib.ListN.{get_elem?}
 use Rattle.fs_book.specs.Counts.{times, total, once_below}
-use Rattle.fs_book.specs.Numbered.{by_count_once}
+use Rattle.fs_book.specs.Numbered.{by_history_once}
 use Rattle.fs_book.specs.Opened.{OpensAt, Owned, Quiet}
 use Rattle.fs_book.specs.Turns.{longer}
 use Rattle.fs_book.proofs.Lists.{prefix_got, prefix_take, get_below, total_append, find}
@@ -21,7 +21,7 @@ use Rattle.fs_book.proofs.Quiets.{quiet_owned}
 use Rattle.fs_doc.specs.Reading.{Configuration}
 use Rattle.fs_ports.specs.Ports.{Input, Output}
 use Rattle.fs_machine.specs.declared.entry.Entry.{Entry}
-use Rattle.fs_machine.specs.Turned.{IsJournal, arrives, opens, names}
+use Rattle.fs_machine.specs.Turned.{IsJournal, comes_after, opens, names}
 use Rattle.fs_conn.specs.declared.end.End.{End}
 use Rattle.fs_conn.proofs.ToldLemmas.{told_up}
 use Rattle.fs_top.specs.declared.conns.Conn.{Conn}
@@ -167,7 +167,7 @@ module _ (config : Configuration) (start : Option Configuration) (is : start ≡
             let h = All-contains (IsHeld config seen lists) numbers number held there in
             let inside = below h.at h.places h.there h.owns.0 h.owns.1 in
             let same : h.owns.0 ≡ p =
-            by_count_once arrives config seen' h.owns.0 p number (opens_up opens config seen seen' h.owns.0 number front h.owns.2) opened in
+            by_history_once comes_after config seen' h.owns.0 p number (opens_up opens config seen seen' h.owns.0 number front h.owns.2) opened in
             omega (arith, inside, same, past)) in
             omega (arith, none)
         | inr inside ↦ once p number (opens_down config seen seen' p number front inside opened)

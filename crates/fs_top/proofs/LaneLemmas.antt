@@ -1,7 +1,8 @@
 -- What a lane keeps of its connections where its pass goes on.
 use Rattle.std.proofs.Common.{◌≡◌, ◌≢◌, ℕ, zero, suc, ◌+◌, ◌<◌, ◌≤◌, ◌⊎◌, inl, inr, Bool, List, [], ◌∷◌, ◌++◌, length, Option, None, Some, refl, sym}
 use Rattle.std.proofs.Common.{ap, subst, ◌∙◌, cond, eqb, arith, append_assoc, append-nil, length-append}
-use Rattle.std.specs.Prelude.{slice_get, slice_index_or, take, map, if◌then◌else◌}
+use Rattle.std.specs.Prelude.{slice_get, slice_index_or, take, map, if◌then◌else◌, is_some, true, false}
+use Rattle.fs_text.specs.Texts.{Text}
 use Rattle.std.specs.List.{All, AllByRecursion, Contains}
 use Rattle.std.proofs.lemmas.Bool.{cases_eq}
 use Rattle.std.proofs.lemmas.Bool.Decides.{nat_tests}
@@ -16,16 +17,17 @@ use native.Mathlib.Decide.{dec_lt}
 use Rattle.fs_doc.specs.Reading.{Configuration}
 use Rattle.fs_ports.specs.Ports.{Input, Output, IsNewLink}
 use Rattle.fs_book.specs.Counts.{times, total}
-use Rattle.fs_book.specs.Numbered.{count_among, by_count_once}
+use Rattle.fs_book.specs.Numbered.{count_behind, by_history_once}
 use Rattle.fs_book.specs.Opened.{OpensAt, NamesAt, OwnsNumber, Owned, Quiet}
 use Rattle.fs_book.proofs.Lists.{prefix_trans, prefix_get, prefix_got, prefix_take, last_get, last_take, times_before, times_push, total_append}
 use Rattle.fs_book.proofs.Opening.{opens_up, owns_up}
 use Rattle.fs_book.proofs.Quiets.{quiet_places, quiet_owned}
 use Rattle.fs_machine.specs.declared.entry.Entry.{Entry}
 use Rattle.fs_machine.specs.declared.entry.Act.{Act}
-use Rattle.fs_machine.specs.declared.entry.Act.TheVariants.{Arrive, Command, Take, Close, Work, Job, Halt}
+use Rattle.fs_machine.specs.declared.entry.Act.TheVariants.{Arrive, Command, Take, Close, Dialed, Work, Job, Halt}
 use Rattle.fs_machine.specs.Concerns.{actor_of}
-use Rattle.fs_machine.specs.Turned.{IsJournal, opens, names, arrives, is_arrival}
+use Rattle.fs_machine.specs.Controlling.{dial_at, number_of_hold}
+use Rattle.fs_machine.specs.Turned.{IsJournal, opens, names, comes_by, comes_after}
 use Rattle.fs_conn.specs.declared.end.End.{End}
 use Rattle.fs_conn.specs.Owning.{OwnsConn, entry_at, Welcomed}
 use Rattle.fs_conn.specs.Talks.{Told, Gains, MadeAt}
@@ -35,7 +37,8 @@ use Rattle.fs_session.specs.declared.actor.Actor.TheVariants.{Slot, Jobs}
 use Rattle.fs_session.specs.declared.worked.Worked.{Worked}
 use Rattle.fs_session.specs.declared.worked.Worked.TheVariants.{Did, Idle, Stopped, Refused}
 use Rattle.fs_session.specs.Working.{Works, Stays, IsTurnOf}
-use Rattle.fs_state.specs.Switch.{empty}
+use Rattle.fs_state.specs.Switch.{Switch, empty}
+use Rattle.fs_machine.specs.Laws.{state_after}
 use Rattle.fs_machine.proofs.RunLemmas.{is_run_more}
 use Rattle.fs_top.specs.declared.conns.Conn.{Conn}
 use Rattle.fs_top.specs.Lanes.{IsHeld, IsServed, AreAll, AreOnce, AreAllowed, MayEnter, Keeps, number_of}
@@ -208,27 +211,29 @@ module _ (config : Configuration) (seen seen' : List Entry) (mine gained : List 
       let q = h.owns.0 in
       let inside = below h.at h.places h.there q h.owns.1 in
       let its = subst (λ n. OpensAt opens config seen' q n) same (opens_up opens config seen seen' q c.number front h.owns.2) in
-      let one : q ≡ p = by_count_once arrives config seen' q p number its opened in omega (arith, inside, one, outside)) in
+      let one : q ≡ p = by_history_once comes_after config seen' q p number its opened in omega (arith, inside, one, outside)) in
       omega (arith, none))
 
 -- ---- a link that is served from its coming to its end
 
-abbrev opened_where : Bool → List Entry → Option ℕ
-opened_where test log = if test then Some (suc (count_among arrives log)) else None
+abbrev opened_where : Configuration → Bool → List Entry → Option ℕ
+opened_where config test log = if test then Some (suc (count_behind (comes_after config) [] log)) else None
 
-opens_none : (act : Act) (log : List Entry) (conn n : ℕ) → actor_of act ≡ Some conn → opened_where (is_arrival act) log ≢ Some n
-opens_none Arrive log conn n named opened = absurd (cc named)
-opens_none (Command c block) log conn n named opened = absurd (cc opened)
-opens_none (Take c) log conn n named opened = absurd (cc opened)
-opens_none (Close c how) log conn n named opened = absurd (cc opened)
-opens_none (Work slot) log conn n named opened = absurd (cc named)
-opens_none (Job number) log conn n named opened = absurd (cc named)
-opens_none Halt log conn n named opened = absurd (cc named)
+opens_none : (config : Configuration) (act : Act) (log : List Entry) (conn n : ℕ) → actor_of act ≡ Some conn →
+    opened_where config (comes_by act (state_after config log)) log ≢ Some n
+opens_none config Arrive log conn n named opened = absurd (cc named)
+opens_none config (Command c block) log conn n named opened = absurd (cc opened)
+opens_none config (Take c) log conn n named opened = absurd (cc opened)
+opens_none config (Close c how) log conn n named opened = absurd (cc opened)
+opens_none config (Dialed slot linked) log conn n named opened = absurd (cc named)
+opens_none config (Work slot) log conn n named opened = absurd (cc named)
+opens_none config (Job number) log conn n named opened = absurd (cc named)
+opens_none config Halt log conn n named opened = absurd (cc named)
 
 -- an entry that names a connection opens none
 named_opens_none : (config : Configuration) (log : List Entry) (entry : Entry) (conn n : ℕ) → names entry ≡ Some conn →
     opens config log entry ≢ Some n
-named_opens_none config log entry conn n named opened = opens_none entry.act log conn n named opened
+named_opens_none config log entry conn n named opened = opens_none config entry.act log conn n named opened
 
 -- what a served link leaves
 module _ (may : ℕ → Type 0) (halts : Type 0) (config : Configuration) (start : Option Configuration) (is : start ≡ Some config)
@@ -287,7 +292,7 @@ module _ (may : ℕ → Type 0) (halts : Type 0) (config : Configuration) (start
       let q = held.owns.0 in
       let inside = below held.at held.places held.there q held.owns.1 in
       let opened = subst (λ n. OpensAt opens config seen'' q n) same (opens_up opens config seen seen'' q number whole held.owns.2) in
-      let once : q ≡ place = by_count_once arrives config seen'' q place conn opened opened_at in
+      let once : q ≡ place = by_history_once comes_after config seen'' q place conn opened opened_at in
       let lasts = ap length welcomed.front.1 in
       let joined = length-append seen welcomed.front.0 in omega (arith, inside, once, lasts, joined)
 
@@ -339,7 +344,7 @@ module _ (may : ℕ → Type 0) (halts : Type 0) (config : Configuration) (start
             let none =
             times_none number conns (λ k d here is. other (slice_index_or conns k d).number (held k d here) (is ∙ sym same)) in
             let one : p ≡ place =
-            by_count_once arrives config seen'' p place conn (subst (λ n. OpensAt opens config seen'' p n) (sym same) opened) opened_at in
+            by_history_once comes_after config seen'' p place conn (subst (λ n. OpensAt opens config seen'' p n) (sym same) opened) opened_at in
             let joined = total_append (λ (q : ℕ). cond (eqb q p) 1 0) mine gained in
             let here = counts_same place p (sym one) in
             let there = counts_same conn number same in omega (arith, pushed, none, joined, here, there)
@@ -490,10 +495,28 @@ keeps_entered input output may config start seen before seen' mine mine' met con
           (λ p e has there. subst may (one_place p place before seen' entry e sees at has there) told);
     })
 
+-- without a link no connection comes
+unlinked_opens_none : (config : Configuration) (log : List Entry) (moment slot n : ℕ) →
+    opens config log (entry_at moment (Dialed slot false)) ≢ Some n
+unlinked_opens_none config log moment slot n opened =
+    let e : ◌≡◌ {A = Option ℕ} None (Some n) =
+    sym (ap (λ (b : Bool). opened_where config b log) (no_number (dial_at (state_after config log) slot) (state_after config log)))
+    ∙ opened in none-some n e
+  where
+    no_number : (text : Option Text) (s : Switch) → is_some (number_of_hold text false s) ≡ false
+    no_number None s = refl
+    no_number (Some text) s = refl
+
 turn_is_open : (who : Actor) (done : Act) (moment : ℕ) → IsTurnOf who done →
     (names (entry_at moment done) ≡ None) × (done ≢ Halt)
     × ((config : Configuration) (log : List Entry) (n : ℕ) → opens config log (entry_at moment done) ≢ Some n)
-turn_is_open (Slot slot) done moment is = (
+turn_is_open (Slot slot) done moment (inr is) = (
+  ap (λ a. names (entry_at moment a)) is,
+  λ halted. absurd (cc (is, halted)),
+  λ config log n opened.
+      unlinked_opens_none config log moment slot n (sym (ap (λ a. opens config log (entry_at moment a)) is) ∙ opened),
+)
+turn_is_open (Slot slot) done moment (inl is) = (
   ap (λ a. names (entry_at moment a)) is,
   λ halted. absurd (cc (is, halted)),
   λ config log n opened.

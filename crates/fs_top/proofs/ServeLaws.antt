@@ -22,7 +22,7 @@ use Rattle.fs_seats.specs.Seats.{held_in}
 use Rattle.fs_state.specs.Switch.{Switch, empty, is_full, chan_at}
 use Rattle.fs_machine.specs.declared.entry.Entry.{Entry}
 use Rattle.fs_machine.specs.declared.entry.Act.{Act}
-use Rattle.fs_machine.specs.declared.entry.Act.TheVariants.{Arrive, Command, Take, Close, Work, Job, Halt}
+use Rattle.fs_machine.specs.declared.entry.Act.TheVariants.{Arrive, Command, Take, Close, Dialed, Work, Job, Halt}
 use Rattle.fs_machine.specs.declared.refusal.Refusal.{Refusal}
 use Rattle.fs_machine.specs.declared.refusal.Refusal.TheVariants as refusal
 use Rattle.fs_machine.specs.Laws.{state_after}
@@ -65,6 +65,7 @@ halt_is entry h = by entry.moment entry.act h
     by moment (Command conn block) h = absurd (cc)
     by moment (Take conn) h = absurd (cc)
     by moment (Close conn how) h = absurd (cc)
+    by moment (Dialed slot linked) h = absurd (cc)
     by moment (Work slot) h = absurd (cc)
     by moment (Job number) h = absurd (cc)
     by moment Halt h = refl

@@ -9,9 +9,10 @@ use fs_machine::{Act, Closing, Entry, Machine, Reply};
 use fs_text::{Memory, Txt};
 
 /// Answers `entries STEPS`, with `;` between them: `arrive`, `say CONNECTION LINE`, `take CONNECTION`,
-/// `leave CONNECTION` by the end of its input, `close CONNECTION` with all sent, `job NUMBER`, `halt`,
-/// `hear CONNECTION COUNT`, by which so many frames are taken, and `work SLOTS` with an entry for each slot. It tells
-/// what `bridging` tells, refusals, and the frames that are taken, those of `hear` in short.
+/// `read CONNECTION`, `leave CONNECTION` by the end of its input, `close CONNECTION` with all sent, `dialed SLOT` and
+/// `undialed SLOT` as there is a link to its controller or none, `job NUMBER`, `halt`, `hear CONNECTION COUNT`, by
+/// which so many frames are taken, and `work SLOTS` with an entry for each slot. It tells what `bridging` tells,
+/// refusals, and the frames that are taken: those of `read` whole, those of `hear` in short.
 pub(crate) fn tell_entries(table: &Table, steps: &str, answer: &mut Answer) {
     if let Some(mut machine) = machine_of(table, answer) {
         for step in steps.split(';') {
@@ -42,8 +43,11 @@ fn tell_step(machine: &mut Machine, step: &str, answer: &mut Answer) {
         ),
         "leave" => close(machine, rest, Closing::EndOfInput, answer),
         "close" => close(machine, rest, Closing::Sent, answer),
+        "dialed" => tell_dialed(machine, rest, true, answer),
+        "undialed" => tell_dialed(machine, rest, false, answer),
         "halt" => tell_act(machine, Act::Halt, answer),
         "work" => work(machine, rest, answer),
+        "read" => read(machine, rest, answer),
         "hear" => hear(machine, rest, answer),
         _ => answer.line("no step"),
     }
@@ -51,6 +55,18 @@ fn tell_step(machine: &mut Machine, step: &str, answer: &mut Answer) {
 
 fn conn_of(word: &str) -> u32 {
     u32::from(slot_of(word))
+}
+
+// Makes the entry by which a controller was dialed for the channel in a slot, and there is a link to it or none.
+fn tell_dialed(machine: &mut Machine, slot: &str, linked: bool, answer: &mut Answer) {
+    tell_act(
+        machine,
+        Act::Dialed {
+            slot: slot_of(slot),
+            linked,
+        },
+        answer,
+    );
 }
 
 // Makes the entry by which a connection begins to end, or ends.
@@ -106,6 +122,19 @@ fn tell_act(machine: &mut Machine, act: Act, answer: &mut Answer) {
     let entry = Entry { moment: 0, act };
     if let Some(Reply::Frame(frame)) = tell_entry(machine, &entry, answer) {
         tell_answers(frame.as_bytes(), answer);
+    }
+}
+
+// Takes a frame of a connection, and tells it whole.
+fn read(machine: &mut Machine, conn: &str, answer: &mut Answer) {
+    let entry = Entry {
+        moment: 0,
+        act: Act::Take {
+            conn: conn_of(conn),
+        },
+    };
+    if let Some(Reply::Frame(frame)) = tell_entry(machine, &entry, answer) {
+        answer.lines(frame.as_bytes());
     }
 }
 

@@ -34,13 +34,7 @@ def run_action(switch, channel, action):
     if action.application in INLINE:
         run_assignment(switch, channel, action.application, argument)
     else:
-        application(switch, action.application)(switch, channel, argument)
-
-
-def application(switch, name):
-    """What the application of this name does. What is still to come is known to some switches alone."""
-    coming = COMING if switch.coming else {}
-    return APPLICATIONS.get(name) or coming.get(name) or run_unknown
+        APPLICATIONS.get(action.application, run_unknown)(switch, channel, argument)
 
 
 def run_assignment(switch, channel, application, argument):
@@ -157,9 +151,5 @@ APPLICATIONS = {
     "park": run_park,
     "transfer": run_transfer,
     "fifo": run_fifo,
-}
-
-# what the program does not know yet
-COMING = {
     "socket": run_socket,
 }

@@ -7,10 +7,11 @@ from limits import Bytes, Limits, Room
 from messages import Messages, Variables
 from rings import Rings
 from shutdowns import Shutdowns
+from sockets import Dialing, Sockets
 from spelling import Spelling
 from streams import Blocks, Streams
 from times import Times
-from waiting import Queues, Trying
+from waiting import Queues
 from words import Words
 
 
@@ -48,10 +49,10 @@ class Mixture(Layers):
         return super().command(session)
 
 
-class Everything(Mixture, Trying):
-    """Documents of several kinds in one, all commands, and longer plays, queues among them."""
+class Everything(Mixture, Dialing):
+    """Documents of several kinds in one, all commands, and longer plays, queues and sockets among them."""
 
-    FURTHER_PARTS = (Queues,)
+    FURTHER_PARTS = (Queues, Sockets)
 
     def __init__(self, seed):
         super().__init__(seed)
@@ -59,7 +60,7 @@ class Everything(Mixture, Trying):
         self.parts += self.further_parts
 
     def tried(self):
-        return self.fifo()
+        return self.one_of(self.fifo, self.socket)
 
     def command(self, session):
         if self.further_parts and self.chance(0.35):
@@ -78,6 +79,6 @@ class Everything(Mixture, Trying):
 
 ALL = (
     Words, Layers, Rings, Times, Bytes, Limits, Spelling, Room, Mixture, Messages, Variables, Jobs, Crowds,
-    Shutdowns, Queues, Everything, Blocks, FurtherBlocks, Streams, FurtherStreams,
+    Shutdowns, Queues, Sockets, Everything, Blocks, FurtherBlocks, Streams, FurtherStreams,
 )
 KINDS = {kind.__name__.lower(): kind for kind in ALL}

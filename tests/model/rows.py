@@ -1,13 +1,12 @@
 #!/usr/bin/env python3
 """Plays whose answers the rules tell, and what the model says of them.
 
-    python3 tests/model/rows.py [--coming]
+    python3 tests/model/rows.py
 
-prints how many rows agree. With `--coming` there are rows of what the program does not know yet, too. Of each
-row that does not agree, what it expects and what the model says are printed, and the status is 1.
+prints how many rows agree. Of each row that does not agree, what it expects and what the model says are
+printed, and the status is 1.
 """
 
-import argparse
 import re
 import sys
 from collections import Counter
@@ -21,7 +20,6 @@ from session import Session
 from tables import identifier
 
 ROWS = {}
-COMING_ROWS = {}
 
 NOTICE = "Disconnected, goodbye.\nSee you at ClueCon! http://www.cluecon.com/\n"
 ACCEPTED = "+OK accepted"
@@ -31,11 +29,11 @@ EMPTY = Document({})
 FIRST, SECOND = identifier(1), identifier(2)
 
 
-def row(name, rows=ROWS):
+def row(name):
     """Makes a function the row of this name. It gives pairs of what the model says and what is expected."""
 
     def register(run):
-        rows[name] = run
+        ROWS[name] = run
         return run
 
     return register
@@ -75,8 +73,8 @@ def blocks(*lines):
 class Played:
     """A play of one connection."""
 
-    def __init__(self, document, pieces, coming=False):
-        self.session = Session(document, coming)
+    def __init__(self, document, pieces):
+        self.session = Session(document)
         self.result = self.session.play(pieces)
 
     def told(self):
@@ -561,11 +559,6 @@ def queued(*lines, document=None):
     return play(document or queue_document(), *lines)
 
 
-def coming(*lines, document=None):
-    """A play in which the model knows what is still to come."""
-    return Played(document or queue_document(), blocks("auth ClueCon", *lines), coming=True)
-
-
 def events(played):
     return [body for headers, body in frames(played.result.output) if "event" in headers["Content-Type"]]
 
@@ -866,25 +859,20 @@ def filters_of_queues():
         yield brief(said), expected
 
 
-@row("sockets are not known to the model of today", COMING_ROWS)
-def not_known_yet():
-    yield queued(call("sock")).bodies(), ["-ERR DESTINATION_OUT_OF_ORDER\n"]
-
-
-@row("a channel goes on where no connection can be had", COMING_ROWS)
+@row("a channel goes on where no connection can be had")
 def no_connection():
-    said = coming(WATCHED, call("sock"))
+    said = queued(WATCHED, call("sock"))
     yield said.bodies(), [f"+OK {FIRST}\n"]
     yield brief(said), (
         "STATE 1, STATE 1, STATE 2, STATE 2, STATE 2, EXECUTE 2, EXECUTE_COMPLETE 2, "
         "EXECUTE 2, ANSWER 2, ANSWER 1, EXECUTE_COMPLETE 2, EXECUTE 2, PARK 2, STATE 2, "
         "STATE 1, EXECUTE 1, PARK 1, STATE 1"
     )
-    said = coming(call("ans"), WATCHED, execute(2, "socket", "h:9"), execute(2, "eval"))
+    said = queued(call("ans"), WATCHED, execute(2, "socket", "h:9"), execute(2, "eval"))
     yield brief(said), "EXECUTE 2, EXECUTE_COMPLETE 2, EXECUTE 2, EXECUTE_COMPLETE 2"
 
 
-@row("which targets are dialed: an entry more tells of it", COMING_ROWS)
+@row("which targets are dialed: an entry more tells of it")
 def targets():
     dialed = ("h:9", "127.0.0.1:9999 async full", " h:1", "::1:65535", "h:00000000000000000009", "h:9 x y")
     others = (
@@ -893,7 +881,7 @@ def targets():
     )
     for target in dialed + others:
         run = (Action("socket", target), *actions("answer; park"))
-        said = coming(call("1"), document=Document({"default": [Extension("1", run)]}))
+        said = queued(call("1"), document=Document({"default": [Extension("1", run)]}))
         yield (target, said.session.journal.cost), (target, COST_OF_CALL + 64 * (target in dialed))
 
 
@@ -902,26 +890,23 @@ def targets():
 COST_OF_CALL = 64 * (1 + 2 + 2 * 2 + 1 + 3 + 1 + 1 + 3 + 1 + 1) + len(f"auth ClueCon\n\n{call('1')}\n\n")
 
 
-@row("a wait for a connection is one of the 100,000 entries at one moment", COMING_ROWS)
+@row("a wait for a connection is one of the 100,000 entries at one moment")
 def endless_dials():
     for target, ended in (("h:9", (9, "fsw: runaway 100000")), ("h", (0, ""))):
         text = "; ".join([f"socket {target}"] * 720) + "; transfer spin"
         document = Document({"default": [Extension("spin", actions(text))]}, slots=2)
-        yield coming(call("spin"), document=document).ended(), ended
+        yield queued(call("spin"), document=document).ended(), ended
 
 
 def main():
-    words = argparse.ArgumentParser(description=__doc__, formatter_class=argparse.RawDescriptionHelpFormatter)
-    words.add_argument("--coming", action="store_true")
-    rows = ROWS | COMING_ROWS if words.parse_args().coming else ROWS
     agreed = 0
-    for name, run in rows.items():
+    for name, run in ROWS.items():
         parted = [(said, expected) for said, expected in run() if said != expected]
         agreed += not parted
         for said, expected in parted:
             print(f"{name}\n  expected        {expected!r}\n  the model says  {said!r}")
-    print(f"{agreed} of {len(rows)} rows agree")
-    return int(agreed < len(rows))
+    print(f"{agreed} of {len(ROWS)} rows agree")
+    return int(agreed < len(ROWS))
 
 
 if __name__ == "__main__":

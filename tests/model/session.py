@@ -64,9 +64,9 @@ class Waiting:
 
 
 class Session:
-    def __init__(self, document, coming=False):
+    def __init__(self, document):
         self.journal = Journal(document.journal_limit)
-        self.switch = Switch(document, self.journal, coming)
+        self.switch = Switch(document, self.journal)
         self.stream = Stream()
         self.connection = Connection(self.switch)
         self.waiting = deque()

@@ -32,13 +32,9 @@ class Event:
 
 
 class Switch:
-    """One entry at a time changes it. The entry in hand collects its events, and an answer that was owed.
+    """One entry at a time changes it. The entry in hand collects its events, and an answer that was owed."""
 
-    A switch to which `coming` is said knows the applications that are still to come.
-    """
-
-    def __init__(self, document, journal, coming=False):
-        self.coming = coming
+    def __init__(self, document, journal):
         self.document = document
         self.journal = journal
         self.globals = Variables(OF_GLOBALS, document.global_values)

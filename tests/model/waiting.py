@@ -19,7 +19,7 @@ def dialing(channel):
 
 
 class Trying(Further):
-    """The applications of today, and among them those that a kind of plays tries."""
+    """All applications, and among them those that a kind of plays tries."""
 
     QUEUES = ("g", "F", "a!b", "!", "q" * 1100, "\xe9%:=")
     IMPORTANCE = ("", "", "", "", "!5", "!", "!x!9")

@@ -1,14 +1,13 @@
-"""Kinds of plays of what is still to come."""
+"""Plays of waits for a connection, which no play can have."""
 
-import kinds
 from blocks import LONGEST_BLOCK
 from dialplan import Action, Extension
 from session import COST_OF_ENTRY, LARGEST_COST
-from waiting import Queues, Trying
+from waiting import Trying
 
 
 class Dialing(Trying):
-    """The applications of today, and among them waits for a connection."""
+    """All applications, and among them waits for a connection."""
 
     TARGETS = (
         "h:9", "127.0.0.1:9999 async full", "localhost:8021 async", "::1:8021 full", "h:1", "h:65535",
@@ -66,15 +65,3 @@ class Sockets(Dialing):
         whole, rest = divmod(max(room, 0), LONGEST_BLOCK + 2 * COST_OF_ENTRY)
         lengths = [LONGEST_BLOCK] * whole + [rest]
         return "\n\n".join("api uuid_exists ".ljust(length - 2, "x") for length in lengths)
-
-
-class Everything(kinds.Everything, Dialing):
-    """Documents of several kinds in one, all commands, and longer plays, queues and sockets among them."""
-
-    FURTHER_PARTS = (Queues, Sockets)
-
-    def tried(self):
-        return self.one_of(self.fifo, self.socket)
-
-
-COMING_KINDS = {kind.__name__.lower(): kind for kind in (Sockets, Everything)}

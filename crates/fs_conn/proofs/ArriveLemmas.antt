@@ -1,5 +1,5 @@
 -- A connection that has just come has made no entry.
-use Rattle.std.proofs.Common.{◌≡◌, ◌≢◌, ℕ, suc, ◌<◌, false, List, [], ◌∷◌, ◌++◌, length, Option, None, Some, refl, sym, ap, subst, ◌∙◌, arith}
+use Rattle.std.proofs.Common.{◌≡◌, ◌≢◌, ℕ, suc, ◌<◌, Bool, true, false, if◌then◌else◌, List, [], ◌∷◌, ◌++◌, length, Option, None, Some, refl, sym, ap, subst, ◌∙◌, arith}
 use mathlib.Core.List.{IsPrefix}
 use Rattle.std.proofs.lemmas.Bool.{both_ways}
 use Rattle.std.proofs.lemmas.Option.{none-some}
@@ -15,7 +15,7 @@ use Rattle.fs_machine.specs.declared.entry.Act.TheVariants.{Arrive}
 use Rattle.fs_machine.specs.declared.reply.Reply.{Reply}
 use Rattle.fs_machine.specs.declared.reply.Reply.TheVariants as reply
 use Rattle.fs_machine.specs.Connections.{phase_at}
-use Rattle.fs_machine.specs.Step.{is_closed, step}
+use Rattle.fs_machine.specs.Step.{is_closed, refusal_of, step}
 use Rattle.fs_machine.specs.Runs.{run_from, IsRunFrom}
 use Rattle.fs_machine.specs.Laws.{state_after}
 use Rattle.fs_machine.specs.Turned.{IsJournal, Answers, comes_after, opens, names}
@@ -66,31 +66,37 @@ pub record Came (config : Configuration) (entry : Entry) (before seen : List Ent
   pub owns : OwnsConn config conn seen mine
   pub fresh : NoneNames names conn seen
 
+number_of : (b : Bool) (count number : ℕ) → ◌≡◌ {A = Option ℕ} (if b then Some (suc count) else None) (Some number) → suc count ≡ number
+number_of true count number is = cc is
+number_of false count number is = absurd (cc is)
+
+-- whichever entry it comes by
+pub came_by : (config : Configuration) (before : List Entry) (mine : List ℕ) (entry : Entry) (number : ℕ) → IsJournal config before →
+    refusal_of (state_after config before) entry ≡ None → names entry ≡ None → opens config before entry ≡ Some number →
+    Came config entry before (before ++ entry ∷ []) (mine ++ length before ∷ []) number
+came_by config before mine entry number run taken unnamed_is opened =
+    let orderly = empty_orderly config run.within.settings.journal.1 in
+    let count : ℕ = count_behind (comes_after config) [] before in
+    let drawn : (state_after config before).drawn.conns ≡ count = run_counts config [] before orderly run.run ∙ none_more count in
+    let number_is : suc count ≡ number = number_of (comes_after config before entry) count number opened in
+    record {
+      run = record { within = run.within; run = is_run_more (empty config) before entry run.run taken };
+      opened = opened;
+      owns = own_new opens config number before entry mine opened;
+      fresh =
+          none_push number before entry (unnamed number (empty config) before orderly run.run (omega (arith, drawn, number_is)))
+          (λ same. none-some number (sym unnamed_is ∙ same));
+    }
+
 pub came : (config : Configuration) (before : List Entry) (mine : List ℕ) (moment : ℕ) (answer : Reply) →
     Answers config before (entry_at moment Arrive) answer →
     (number : ℕ) × (answer ≡ reply.Arrived number)
     × Came config (entry_at moment Arrive) before (before ++ entry_at moment Arrive ∷ []) (mine ++ length before ∷ []) number
 came config before mine moment answer taken =
-    let arrived = arrived_opens config before moment answer taken in
-    let orderly = empty_orderly config taken.before.within.settings.journal.1 in
-    let count : ℕ = count_behind (comes_after config) [] before in
-    let drawn : (state_after config before).drawn.conns ≡ count =
-    run_counts config [] before orderly taken.before.run ∙ none_more count in
-    let number_is : suc count ≡ arrived.0 = cc arrived.2 in (
+    let arrived = arrived_opens config before moment answer taken in (
       arrived.0,
       arrived.1,
-      record {
-        run = record {
-          within = taken.before.within;
-          run = is_run_more (empty config) before (entry_at moment Arrive) taken.before.run taken.defined;
-        };
-        opened = arrived.2;
-        owns = own_new opens config arrived.0 before (entry_at moment Arrive) mine arrived.2;
-        fresh =
-            none_push arrived.0 before (entry_at moment Arrive)
-            (unnamed arrived.0 (empty config) before orderly taken.before.run (omega (arith, drawn, number_is)))
-            (λ same. none-some arrived.0 same);
-      },
+      came_by config before mine (entry_at moment Arrive) arrived.0 taken.before taken.defined refl arrived.2,
     )
 
 pub came_as : (config : Configuration) (before seen' : List Entry) (mine mine' : List ℕ) (place moment conn : ℕ) (answer : Reply) →

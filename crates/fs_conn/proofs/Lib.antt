@@ -18,5 +18,5 @@ pub mod CauseLemmas
 mod OwnerLemmas
 mod TalkLemmas
 pub mod ToldLemmas
-mod ArriveLemmas
+pub mod ArriveLemmas
 mod PartingLemmas

@@ -1,11 +1,11 @@
-//! The program `fsw`: it makes the real files, link, door, clock and error output, runs the words or serves whoever
-//! connects, and ends with the status.
+//! The program `fsw`: it makes the real files, link, door, dialer, clock and error output, runs the words or serves
+//! whoever connects, and ends with the status.
 #![tactic(auto)]
 
 ghost use Rattle.std.specs.Prelude.{◌≡◌, true};
 ghost use Rattle.fs_top.specs.Serving as spec;
 
-use fs_ports::{Bells, DiskFiles, Files, RealClock, Sink, Stdio, TcpDoor, send_all};
+use fs_ports::{Bells, DiskFiles, Files, RealClock, Sink, Stdio, TcpDial, TcpDoor, send_all};
 use fs_text::{Memory, Txt};
 use fs_top::{is_serve, run, serve};
 use std::alloc::Global;
@@ -52,7 +52,8 @@ where
     R: Net<Listener = TcpListener, Stream = TcpStream> + Threads + Wait + time::Clock + Sync,
     requires { spec.is_serve words.now ≡ true }
 {
-    let bells = match Bells::new(alloc, SLOTS, LINKS) {
+    // For whoever serves the controller of a slot there is a seat, too.
+    let bells = match Bells::new(alloc, SLOTS, LINKS + SLOTS) {
         Ok(Some(bells)) => bells,
         Ok(None) => {
             send_all(err, b"fsw: door fault\n");
@@ -64,8 +65,9 @@ where
         }
     };
     let mut door = TcpDoor::new(rt, &bells);
+    let dialer = TcpDial::new(rt, &bells);
     let clock = RealClock::new(rt, &bells);
-    serve(rt, alloc, words, files, &mut door, &clock, err)
+    serve(rt, alloc, words, files, &mut door, &dialer, &clock, err)
         .status
         .code
 }

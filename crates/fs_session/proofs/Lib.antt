@@ -1,1 +1,4 @@
+mod SeekLemmas
+mod TalkLemmas
+pub mod UnlinkedLemmas
 mod WorkLemmas

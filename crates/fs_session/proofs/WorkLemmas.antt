@@ -1,9 +1,12 @@
 -- What a turn that is refused tells, to whom it is due, and what comes of several tries.
-use Rattle.std.proofs.Common.{◌≡◌, ◌≢◌, ℕ, Bool, true, false, List, [], ◌∷◌, ◌++◌, Option, None, Some, Result, Ok, Err, inl, inr, refl, sym, ap, subst, ◌∙◌}
+use Rattle.std.proofs.Common.{◌≡◌, ◌≢◌, ℕ, Bool, true, false, List, [], ◌∷◌, ◌++◌, Option, None, Some, Result, Ok, Err, refl, sym, ap, subst, ◌∙◌}
 use Rattle.std.specs.Prelude.{◌&&◌, ◌==◌, if◌then◌else◌, count_by, is_some, is_none}
 use Prim.Native.Nat.{zero, suc}
 use mathlib.Core.List.{IsPrefix}
 use Rattle.fs_doc.specs.Reading.{Configuration}
+use Rattle.fs_text.specs.Texts.{Text}
+use Rattle.fs_out.specs.Targets.{target_of}
+use Rattle.fs_out.specs.declared.target.Target.{Target}
 use Rattle.fs_book.proofs.Lists.{prefix_trans}
 use Rattle.fs_chan.specs.declared.due.Due.{Due as Moment}
 use Rattle.fs_chan.specs.declared.due.Due.TheVariants.{Now, At}
@@ -18,6 +21,7 @@ use Rattle.fs_machine.specs.declared.due.DueActor.{DueActor}
 use Rattle.fs_machine.specs.declared.due.DueActor.TheVariants as actor
 use Rattle.fs_machine.specs.declared.refusal.Refusal.{Refusal}
 use Rattle.fs_machine.specs.declared.refusal.Refusal.TheVariants as refusal
+use Rattle.fs_machine.specs.Controlling.{dial_at}
 use Rattle.fs_machine.specs.Due.{next_slot, next_job, slot_due, dials, due_job, first_job_moment, due_as, later_or_never, actor_or}
 use Rattle.fs_machine.specs.Laws.{state_after}
 use Rattle.fs_machine.specs.Questions.{jobs_left}
@@ -29,11 +33,11 @@ use Rattle.fs_session.specs.declared.actor.Actor.TheVariants.{Slot, Jobs}
 use Rattle.fs_session.specs.declared.actor.Errand.{Errand}
 use Rattle.fs_session.specs.declared.actor.Errand.TheVariants as errand
 use Rattle.fs_session.specs.declared.standing.Standing.{Standing}
-use Rattle.fs_session.specs.declared.standing.Standing.TheVariants.{Full, Over, Due}
+use Rattle.fs_session.specs.declared.standing.Standing.TheVariants.{Full, Over, Seeks, Due}
 use Rattle.fs_session.specs.declared.worked.Worked.{Worked}
-use Rattle.fs_session.specs.declared.worked.Worked.TheVariants.{Did, Idle, Stopped, Refused}
-use Rattle.fs_session.specs.Working.{is_final, is_over, due_of, standing, standing_unless, act_of, IsTurnOf, Gained, Stays, Stands, Fails}
-use Rattle.fs_session.specs.Working.{Works, Tries, Attempts, judged}
+use Rattle.fs_session.specs.declared.worked.Worked.TheVariants.{Did, Idle, Talk, Stopped, Refused}
+use Rattle.fs_session.specs.Working.{is_final, is_over, sought_by, due_of, seeking, standing, standing_unless, act_of, IsErrand, errand_of}
+use Rattle.fs_session.specs.Working.{IsTurnOf, Talks, Gained, Stays, Stands, Sought, Fails, Works, Tries, Attempts}
 
 no_rows : {T : Type 0} (rows : List (Option T)) → ((seat : ℕ) → held_in rows seat ≡ None) → count_by is_some rows ≡ 0
 no_rows [] none = refl
@@ -70,135 +74,143 @@ final_refused s entry (refusal.NotDue next) refused final other = absurd (cc fin
 
 -- ---- what is due to whom
 
-due_slot_is : (slot other : ℕ) (due : Option Moment) → due_as slot due ≡ actor.Slot other → slot ≡ other
-due_slot_is slot other None is = absurd (cc is)
-due_slot_is slot other (Some Now) is = cc is
-due_slot_is slot other (Some (At moment)) is = absurd (cc is)
-
-due_dial_not : (slot other : ℕ) (due : Option Moment) → due_as slot due ≢ actor.Dial other
-due_dial_not slot other None is = absurd (cc is)
-due_dial_not slot other (Some Now) is = absurd (cc is)
-due_dial_not slot other (Some (At moment)) is = absurd (cc is)
-
-due_job_not : (slot number : ℕ) (due : Option Moment) → due_as slot due ≢ actor.Job number
-due_job_not slot number None is = absurd (cc is)
-due_job_not slot number (Some Now) is = absurd (cc is)
-due_job_not slot number (Some (At moment)) is = absurd (cc is)
-
-later_not : (other : ℕ) (moment : Option ℕ) → later_or_never moment ≢ actor.Slot other
-later_not other None is = absurd (cc is)
-later_not other (Some moment) is = absurd (cc is)
-
-job_not : (other : ℕ) (job moment : Option ℕ) → actor_or actor.Job job (later_or_never moment) ≢ actor.Slot other
-job_not other None moment is = later_not other moment is
-job_not other (Some job) moment is = absurd (cc is)
-
-later_dials_not : (other : ℕ) (moment : Option ℕ) → later_or_never moment ≢ actor.Dial other
-later_dials_not other None is = absurd (cc is)
-later_dials_not other (Some moment) is = absurd (cc is)
-
-job_dials_not : (other : ℕ) (job moment : Option ℕ) → actor_or actor.Job job (later_or_never moment) ≢ actor.Dial other
-job_dials_not other None moment is = later_dials_not other moment is
-job_dials_not other (Some job) moment is = absurd (cc is)
-
--- whoever waits for a controller has nothing else to do
+-- the slot that is due is that of the channel
 slot_is : (waits : Bool) (own other : ℕ) (due : Option Moment) → (if waits then actor.Dial own else due_as own due) ≡ actor.Slot other →
     own ≡ other
 slot_is true own other due is = absurd (cc is)
-slot_is false own other due is = due_slot_is own other due is
-
-dial_is : (waits : Bool) (own other : ℕ) (due : Option Moment) → (if waits then actor.Dial own else due_as own due) ≡ actor.Dial other →
-    own ≡ other
-dial_is true own other due is = cc is
-dial_is false own other due is = absurd (due_dial_not own other due is)
+slot_is false own other None is = absurd (cc is)
+slot_is false own other (Some Now) is = cc is
+slot_is false own other (Some (At moment)) is = absurd (cc is)
 
 no_job_in : (waits : Bool) (own number : ℕ) (due : Option Moment) → (if waits then actor.Dial own else due_as own due) ≢ actor.Job number
 no_job_in true own number due is = absurd (cc is)
-no_job_in false own number due is = due_job_not own number due is
+no_job_in false own number None is = absurd (cc is)
+no_job_in false own number (Some Now) is = absurd (cc is)
+no_job_in false own number (Some (At moment)) is = absurd (cc is)
+
+no_slot_in : (other : ℕ) (job moment : Option ℕ) → actor_or actor.Job job (later_or_never moment) ≢ actor.Slot other
+no_slot_in other None None is = absurd (cc is)
+no_slot_in other None (Some moment) is = absurd (cc is)
+no_slot_in other (Some job) moment is = absurd (cc is)
+
+-- whoever waits for no controller has none dialed
+no_dial_in : (text : Option Text) (own : ℕ) (due : Option Moment) → text ≡ None →
+    IsErrand (if is_some text then actor.Dial own else due_as own due)
+no_dial_in None own None is = tt
+no_dial_in None own (Some Now) is = tt
+no_dial_in None own (Some (At moment)) is = tt
+no_dial_in (Some text) own due is = absurd (cc is)
+
+no_dial_of_jobs : (job moment : Option ℕ) → IsErrand (actor_or actor.Job job (later_or_never moment))
+no_dial_of_jobs None None = tt
+no_dial_of_jobs None (Some moment) = tt
+no_dial_of_jobs (Some job) moment = tt
 
 -- a slot that is due is that of the actor
-pub turn_of_slot : (who : Actor) (now slot : ℕ) (s : Switch) → due_of who now s ≡ actor.Slot slot → IsTurnOf who (act.Work slot)
+turn_of_slot : (who : Actor) (now slot : ℕ) (s : Switch) → due_of who now s ≡ actor.Slot slot → IsTurnOf who (act.Work slot)
 unfolding next_slot next_job
 turn_of_slot (Slot own) now slot s is =
-    inl (ap act.Work (sym (slot_is (dials (chan_at s own)) own slot (slot_due own (at_moment now s)) is)))
+    ap act.Work (sym (slot_is (dials (chan_at s own)) own slot (slot_due own (at_moment now s)) is))
 turn_of_slot Jobs now slot s is =
-    absurd (job_not slot (due_job (at_moment now s)) (first_job_moment (at_moment now s)) is)
-
--- so is one whose channel waits for a controller
-pub turn_of_dial : (who : Actor) (now slot : ℕ) (s : Switch) → due_of who now s ≡ actor.Dial slot → IsTurnOf who (act.Dialed slot false)
-unfolding next_slot next_job
-turn_of_dial (Slot own) now slot s is =
-    inr (ap (λ (at : ℕ). act.Dialed at false) (sym (dial_is (dials (chan_at s own)) own slot (slot_due own (at_moment now s)) is)))
-turn_of_dial Jobs now slot s is =
-    absurd (job_dials_not slot (due_job (at_moment now s)) (first_job_moment (at_moment now s)) is)
+    absurd (no_slot_in slot (due_job (at_moment now s)) (first_job_moment (at_moment now s)) is)
 
 -- a job is due to the jobs alone
-pub turn_of_job : (who : Actor) (now job : ℕ) (s : Switch) → due_of who now s ≡ actor.Job job → IsTurnOf who (act.Job job)
+turn_of_job : (who : Actor) (now job : ℕ) (s : Switch) → due_of who now s ≡ actor.Job job → IsTurnOf who (act.Job job)
 unfolding next_slot
 turn_of_job (Slot own) now job s is = absurd (no_job_in (dials (chan_at s own)) own job (slot_due own (at_moment now s)) is)
 turn_of_job Jobs now job s is = (job, refl)
 
-due_unless : (full : Option Refusal) (over : Bool) (due due' : DueActor) →
-    standing_unless full (if over then Over else Due due) ≡ Due due' → due ≡ due'
-due_unless None false due due' is = cc is
-due_unless None true due due' is = absurd (cc is)
-due_unless (Some why) over due due' is = absurd (cc is)
+-- an actor whose channel waits for no controller has none dialed
+no_dial_of : (who : Actor) (now : ℕ) (s : Switch) → sought_by who s ≡ None → IsErrand (due_of who now s)
+unfolding next_slot next_job
+no_dial_of (Slot own) now s is = no_dial_in (dial_at s own) own (slot_due own (at_moment now s)) is
+no_dial_of Jobs now s is = no_dial_of_jobs (due_job (at_moment now s)) (first_job_moment (at_moment now s))
 
--- what an actor has to do, where it stands so
-pub due_standing : (who : Actor) (now : ℕ) (s : Switch) (due : DueActor) → standing who now s ≡ Due due → due_of who now s ≡ due
-due_standing who now s due is = due_unless (refused_as_full s) (is_over who s) (due_of who now s) due is
+-- ---- how an actor stands
 
-full_unless : (full : Option Refusal) (over : Bool) (due : DueActor) (why : Refusal) →
-    standing_unless full (if over then Over else Due due) ≡ Full why → full ≡ Some why
-full_unless None false due why is = absurd (cc is)
-full_unless None true due why is = absurd (cc is)
-full_unless (Some other) over due why is = ap Some (cc is)
+module _ (who : Actor) (now : ℕ) (s : Switch) where
+  -- where something is to be done, it is what the actor has to do, and its channel waits for no controller
+  abbrev HasDue : DueActor → Type 0
+  HasDue due = (due_of who now s ≡ due) × (sought_by who s ≡ None)
 
--- why each entry is refused, where an actor stands so
-pub full_standing : (who : Actor) (now : ℕ) (s : Switch) (why : Refusal) → standing who now s ≡ Full why → refused_as_full s ≡ Some why
-full_standing who now s why is = full_unless (refused_as_full s) (is_over who s) (due_of who now s) why is
+  due_stands : (due : DueActor) → standing who now s ≡ Due due → HasDue due
+  due_stands due is = by (refused_as_full s) (is_over who s) (sought_by who s) refl is
+    where
+      by : (full : Option Refusal) (over : Bool) (text : Option Text) → sought_by who s ≡ text →
+          standing_unless full (if over then Over else seeking text (due_of who now s)) ≡ Due due → HasDue due
+      by None false None none is = (cc is, none)
+      by None false (Some text) none is = absurd (cc is)
+      by None true text none is = absurd (cc is)
+      by (Some why) over text none is = absurd (cc is)
 
--- what is to be done by an actor is a turn of it
-pub turn_judged : (who : Actor) (now : ℕ) (s : Switch) (how : Standing) (todo : Errand) → standing who now s ≡ how →
-    judged how ≡ Ok todo → IsTurnOf who (act_of todo)
-turn_judged who now s (Full why) todo stands is = absurd (cc is)
-turn_judged who now s Over todo stands is = absurd (cc is)
-turn_judged who now s (Due actor.Never) todo stands is = absurd (cc is)
-turn_judged who now s (Due (actor.Later next)) todo stands is = absurd (cc is)
-turn_judged who now s (Due (actor.Slot slot)) todo stands is =
-    let same : errand.Slot slot ≡ todo = cc is in
-    subst (λ (e : Errand). IsTurnOf who (act_of e)) same
-    (turn_of_slot who now slot s (due_standing who now s (actor.Slot slot) stands))
-turn_judged who now s (Due (actor.Dial slot)) todo stands is =
-    let same : errand.Dial slot ≡ todo = cc is in
-    subst (λ (e : Errand). IsTurnOf who (act_of e)) same
-    (turn_of_dial who now slot s (due_standing who now s (actor.Dial slot) stands))
-turn_judged who now s (Due (actor.Job job)) todo stands is =
-    let same : errand.Job job ≡ todo = cc is in
-    subst (λ (e : Errand). IsTurnOf who (act_of e)) same
-    (turn_of_job who now job s (due_standing who now s (actor.Job job) stands))
+  -- why each entry is refused, where the journal is full
+  full_stands : (why : Refusal) → standing who now s ≡ Full why → refused_as_full s ≡ Some why
+  full_stands why is = by (refused_as_full s) (is_over who s) (sought_by who s) is
+    where
+      by : (full : Option Refusal) (over : Bool) (text : Option Text) →
+          standing_unless full (if over then Over else seeking text (due_of who now s)) ≡ Full why → full ≡ Some why
+      by None false None is = absurd (cc is)
+      by None false (Some text) is = absurd (cc is)
+      by None true text is = absurd (cc is)
+      by (Some other) over text is = ap Some (cc is)
+
+  -- nobody is to be dialed, where something is to be done
+  pub due_errand : (due : DueActor) → standing who now s ≡ Due due → IsErrand due
+  due_errand due is = let has = due_stands due is in subst IsErrand has.0 (no_dial_of who now s has.1)
+
+  -- what is to be done by an actor is a turn of it
+  pub due_turn : (due : DueActor) (todo : Errand) → standing who now s ≡ Due due → errand_of due ≡ Ok todo → IsTurnOf who (act_of todo)
+  due_turn (actor.Slot slot) todo is done =
+      let same : errand.Slot slot ≡ todo = cc done in
+      subst (λ (e : Errand). IsTurnOf who (act_of e)) same (turn_of_slot who now slot s (due_stands (actor.Slot slot) is).0)
+  due_turn (actor.Job job) todo is done =
+      let same : errand.Job job ≡ todo = cc done in
+      subst (λ (e : Errand). IsTurnOf who (act_of e)) same (turn_of_job who now job s (due_stands (actor.Job job) is).0)
+  due_turn (actor.Dial slot) todo is done = absurd (cc done)
+  due_turn (actor.Later next) todo is done = absurd (cc done)
+  due_turn actor.Never todo is done = absurd (cc done)
 
 -- what a look says where nothing is to be done
 module _ (config : Configuration) (seen : List Entry) (mine : List ℕ) (seen' : List Entry) (mine' : List ℕ)
     (stays : Stays config seen mine seen' mine') (who : Actor) (now : ℕ) where
-  pub works_judged : (how : Standing) (worked : Worked) → standing who now (state_after config seen') ≡ how →
-      judged how ≡ Err worked → Works config seen mine seen' mine' who now worked
-  works_judged (Full why) worked stands is =
-      let same : Refused why ≡ worked = cc is in
-      subst (λ (w : Worked). Works config seen mine seen' mine' who now w) same
-      (record { stays = stays; cause = λ _. full_standing who now (state_after config seen') why stands })
-  works_judged Over worked stands is =
-      let same : Stopped ≡ worked = cc is in
-      subst (λ (w : Worked). Works config seen mine seen' mine' who now w) same (record { stays = stays; stands = stands })
-  works_judged (Due actor.Never) worked stands is =
-      let same : Idle None ≡ worked = cc is in
-      subst (λ (w : Worked). Works config seen mine seen' mine' who now w) same (record { stays = stays; stands = stands })
-  works_judged (Due (actor.Later next)) worked stands is =
-      let same : Idle (Some next) ≡ worked = cc is in
-      subst (λ (w : Worked). Works config seen mine seen' mine' who now w) same (record { stays = stays; stands = stands })
-  works_judged (Due (actor.Slot slot)) worked stands is = absurd (cc is)
-  works_judged (Due (actor.Dial slot)) worked stands is = absurd (cc is)
-  works_judged (Due (actor.Job job)) worked stands is = absurd (cc is)
+  pub works_full : (why : Refusal) → standing who now (state_after config seen') ≡ Full why →
+      Works config seen mine seen' mine' who now (Refused why)
+  works_full why is = record { stays = stays; cause = λ _. full_stands who now (state_after config seen') why is }
+
+  pub works_over : standing who now (state_after config seen') ≡ Over → Works config seen mine seen' mine' who now Stopped
+  works_over is = record { stays = stays; stands = is }
+
+  -- whoever wants memory says so
+  pub works_wanting : (worked : Worked) → worked ≡ Refused refusal.Memory → Works config seen mine seen' mine' who now worked
+  works_wanting worked is =
+      subst (λ (w : Worked). Works config seen mine seen' mine' who now w) (sym is)
+      (record { stays = stays; cause = λ other. absurd (other refl) })
+
+  -- a controller is to be dialed
+  pub works_sought : (text : Text) (worked : Worked) → standing who now (state_after config seen') ≡ Seeks text → Talks text worked →
+      Works config seen mine seen' mine' who now worked
+  works_sought text (Talk target) is talks = record {
+    text = text;
+    stands = record { stays = stays; stands = is };
+    is = talks;
+  }
+  works_sought text (Refused why) is talks = works_wanting (Refused why) (ap Refused talks)
+  works_sought text (Did place wakes) is talks = absurd talks
+  works_sought text (Idle next) is talks = absurd talks
+  works_sought text Stopped is talks = absurd talks
+
+  -- there is nothing to do yet
+  pub works_idle : (due : DueActor) (next : Option ℕ) → standing who now (state_after config seen') ≡ Due due → errand_of due ≡ Err next →
+      Works config seen mine seen' mine' who now (Idle next)
+  works_idle (actor.Later moment) next is none =
+      let same : Some moment ≡ next = cc none in
+      subst (λ (n : Option ℕ). Works config seen mine seen' mine' who now (Idle n)) same (record { stays = stays; stands = is })
+  works_idle actor.Never next is none =
+      let same : None ≡ next = cc none in
+      subst (λ (n : Option ℕ). Works config seen mine seen' mine' who now (Idle n)) same (record { stays = stays; stands = is })
+  works_idle (actor.Dial slot) next is none = absurd (due_errand who now (state_after config seen') (actor.Dial slot) is)
+  works_idle (actor.Slot slot) next is none = absurd (cc none)
+  works_idle (actor.Job job) next is none = absurd (cc none)
 
 -- ---- what comes of several tries
 
@@ -238,6 +250,7 @@ module _ (config : Configuration) (seen mid : List Entry) (mine mine' : List ℕ
   works_on who now (Did place wakes) works = gained_on (IsTurnOf who) (IsTurnOf who) now place (λ done is. is) works
   works_on who now (Idle None) works = stands_on who now (Due actor.Never) works
   works_on who now (Idle (Some next)) works = stands_on who now (Due (actor.Later next)) works
+  works_on who now (Talk target) works = record { text = works.text; stands = stands_on who now (Seeks works.text) works.stands; is = works.is }
   works_on who now Stopped works = stands_on who now Over works
   works_on who now (Refused why) works = fails_on why works
 
@@ -255,4 +268,5 @@ module _ (config : Configuration) (seen mid : List Entry) (mine mine' : List ℕ
       (λ done is. subst (λ (a : Act). IsTurnOf who a) (sym is) turn) tries
   tries_by who todo now (Some (Refused why)) turn tries = fails_on why tries
   tries_by who todo now (Some (Idle next)) turn tries = absurd tries
+  tries_by who todo now (Some (Talk target)) turn tries = absurd tries
   tries_by who todo now (Some Stopped) turn tries = absurd tries

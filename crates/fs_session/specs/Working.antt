@@ -1,7 +1,11 @@
 -- What a turn does, and what comes of it where there is nothing to do.
-use Rattle.std.specs.Prelude.{◌≡◌, ◌≢◌, ℕ, ◌==◌, ◌&&◌, if◌then◌else◌, Bool, true, false, List, [], ◌∷◌, ◌++◌, length, Option, None, Some, Result, Ok, Err, ◌⊎◌, is_some, is_none}
+use Rattle.std.specs.Prelude.{◌≡◌, ◌≢◌, ℕ, ◌==◌, ◌&&◌, if◌then◌else◌, Bool, true, false, List, [], ◌∷◌, ◌++◌, length, Option, None, Some, Result, Ok, Err, is_some, is_none}
 use mathlib.Core.List.{IsPrefix}
 use Rattle.fs_doc.specs.Reading.{Configuration}
+use Rattle.fs_text.specs.Texts.{Text}
+use Rattle.fs_text.specs.declared.memory.Memory.{Memory}
+use Rattle.fs_out.specs.declared.target.Target.{Target}
+use Rattle.fs_out.specs.Targets.{target_of}
 use Rattle.fs_state.specs.Switch.{Switch, chan_at}
 use Rattle.fs_machine.specs.declared.entry.Entry.{Entry}
 use Rattle.fs_machine.specs.declared.entry.Act.{Act}
@@ -11,6 +15,7 @@ use Rattle.fs_machine.specs.declared.due.DueActor.TheVariants as due
 use Rattle.fs_machine.specs.declared.refusal.Refusal.{Refusal}
 use Rattle.fs_machine.specs.declared.refusal.Refusal.TheVariants as refusal
 use Rattle.fs_machine.specs.declared.reply.Reply.{Reply}
+use Rattle.fs_machine.specs.Controlling.{dial_at}
 use Rattle.fs_machine.specs.Due.{next_slot, next_job}
 use Rattle.fs_machine.specs.Questions.{jobs_left}
 use Rattle.fs_machine.specs.Step.{refused_as_full}
@@ -21,10 +26,10 @@ use Rattle.fs_session.specs.declared.actor.Actor.TheVariants.{Slot, Jobs}
 use Rattle.fs_session.specs.declared.actor.Errand.{Errand}
 use Rattle.fs_session.specs.declared.actor.Errand.TheVariants as errand
 use Rattle.fs_session.specs.declared.standing.Standing.{Standing}
-use Rattle.fs_session.specs.declared.standing.Standing.TheVariants.{Full, Over, Due}
+use Rattle.fs_session.specs.declared.standing.Standing.TheVariants.{Full, Over, Seeks, Due}
 use Rattle.fs_session.specs.declared.standing.StandingOf.{StandingOf}
 use Rattle.fs_session.specs.declared.worked.Worked.{Worked}
-use Rattle.fs_session.specs.declared.worked.Worked.TheVariants.{Did, Idle, Stopped, Refused}
+use Rattle.fs_session.specs.declared.worked.Worked.TheVariants.{Did, Idle, Talk, Stopped, Refused}
 
 -- ---- how an actor stands
 
@@ -33,10 +38,20 @@ abbrev pub is_over : Actor → Switch → Bool
 is_over (Slot slot) s = is_some s.stopping && is_none (chan_at s slot)
 is_over Jobs s = is_some s.stopping && (jobs_left s == 0)
 
+-- the text that names the controller for whom the actor's channel waits, if it waits for one
+abbrev pub sought_by : Actor → Switch → Option Text
+sought_by (Slot slot) s = dial_at s slot
+sought_by Jobs s = None
+
 -- what the actor has to do, seen at a moment
 abbrev pub due_of : Actor → ℕ → Switch → DueActor
 due_of (Slot slot) now s = next_slot slot now s
 due_of Jobs now s = next_job now s
+
+-- it waits for a controller, or else this is to be done
+abbrev pub seeking : Option Text → DueActor → Standing
+seeking None due = Due due
+seeking (Some text) due = Seeks text
 
 -- unless the journal is full
 abbrev pub standing_unless : Option Refusal → Standing → Standing
@@ -45,35 +60,47 @@ standing_unless (Some why) otherwise = Full why
 
 -- a full journal comes before all else
 abbrev pub standing : Actor → ℕ → Switch → Standing
-standing actor now s = standing_unless (refused_as_full s) (if is_over actor s then Over else Due (due_of actor now s))
+standing actor now s =
+    standing_unless (refused_as_full s) (if is_over actor s then Over else seeking (sought_by actor s) (due_of actor now s))
 
--- what a look tells: these entries are a run, and so the actor stands behind them
-pub record TellsActor (asked : StandingOf) (config : Configuration) (log : List Entry) (answer : Standing) : Type 0 where
+-- what a look tells: these entries are a run, and so the actor stands behind them, unless there was no memory
+abbrev pub IsStanding : Standing → Result Standing Memory → Type 0
+IsStanding how (Ok answer) = answer ≡ how
+IsStanding how (Err memory) = Unit {0}
+
+pub record TellsActor (asked : StandingOf) (config : Configuration) (log : List Entry) (answer : Result Standing Memory) : Type 0 where
   pub run : IsJournal config log
-  pub stands : answer ≡ standing asked.actor asked.now (state_after config log)
+  pub stands : IsStanding (standing asked.actor asked.now (state_after config log)) answer
 
 -- ---- what comes of a turn
 
 -- the act by which this is done
 abbrev pub act_of : Errand → Act
 act_of (errand.Slot slot) = act.Work slot
-act_of (errand.Dial slot) = act.Dialed slot false
 act_of (errand.Job job) = act.Job job
 
--- what is to be done where an actor stands so, or else what comes of its turn
-abbrev pub judged : Standing → Result Errand Worked
-judged (Full why) = Err (Refused why)
-judged Over = Err Stopped
-judged (Due due.Never) = Err (Idle None)
-judged (Due (due.Later next)) = Err (Idle (Some next))
-judged (Due (due.Slot slot)) = Ok (errand.Slot slot)
-judged (Due (due.Dial slot)) = Ok (errand.Dial slot)
-judged (Due (due.Job job)) = Ok (errand.Job job)
+-- nobody is to be dialed
+abbrev pub IsErrand : DueActor → Type 0
+IsErrand (due.Dial slot) = ⊥
+IsErrand _ = Unit {0}
 
--- the act is a turn of this actor: the work of its slot, whose channel may go on without the controller for whom it waits, or that of one
--- of the jobs
+-- what is to be done, or the moment before which there is nothing to do, if there is one
+abbrev pub errand_of : DueActor → Result Errand (Option ℕ)
+errand_of (due.Slot slot) = Ok (errand.Slot slot)
+errand_of (due.Dial slot) = Err None
+errand_of (due.Job job) = Ok (errand.Job job)
+errand_of (due.Later next) = Err (Some next)
+errand_of due.Never = Err None
+
+-- who is to be dialed for whom a text names, unless there was no memory
+abbrev pub Talks : Text → Worked → Type 0
+Talks text (Talk target) = target_of text ≡ Ok target
+Talks text (Refused why) = why ≡ refusal.Memory
+Talks text _ = ⊥
+
+-- the act is a turn of this actor: the work of its slot, or that of one of the jobs
 abbrev pub IsTurnOf : Actor → Act → Type 0
-IsTurnOf (Slot slot) done = (done ≡ act.Work slot) ⊎ (done ≡ act.Dialed slot false)
+IsTurnOf (Slot slot) done = done ≡ act.Work slot
 IsTurnOf Jobs done = (job : ℕ) × (done ≡ act.Job job)
 
 -- no later try can do better
@@ -106,6 +133,12 @@ module _ (config : Configuration) (seen : List Entry) (mine : List ℕ) (seen' :
     pub stays : Stays
     pub stands : standing actor now (state_after config seen') ≡ how
 
+  -- none was made, and so the actor's channel waits for this controller behind all that is seen
+  pub record Sought (actor : Actor) (now : ℕ) (target : Target) : Type 0 where
+    pub text : Text
+    pub stands : Stands actor now (Seeks text)
+    pub is : target_of text ≡ Ok target
+
   -- none was made, for this reason, which is that the journal is full or that there was no memory
   pub record Fails (why : Refusal) : Type 0 where
     pub stays : Stays
@@ -116,6 +149,7 @@ module _ (config : Configuration) (seen : List Entry) (mine : List ℕ) (seen' :
   Works actor now (Did place wakes) = Gained (IsTurnOf actor) now place
   Works actor now (Idle None) = Stands actor now (Due due.Never)
   Works actor now (Idle (Some next)) = Stands actor now (Due (due.Later next))
+  Works actor now (Talk target) = Sought actor now target
   Works actor now Stopped = Stands actor now Over
   Works actor now (Refused why) = Fails why
 

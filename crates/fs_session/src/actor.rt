@@ -14,8 +14,6 @@ pub enum Actor {
 pub(crate) enum Errand {
     /// The channel in this slot works.
     Slot(u16),
-    /// The channel in this slot goes on without the controller for whom it waits.
-    Dial(u16),
     /// The job of this number works.
     Job(u64),
 }

@@ -1,11 +1,16 @@
-//! One turn of a session: the channel in a slot, or the least due job, does the one thing that it has to do.
+//! One turn of a session: the channel in a slot, or the least due job, does the one thing that it has to do, or a
+//! controller is dialed for the channel.
 #![tactic(auto)]
 
 mod actor;
 mod standing;
+mod talked;
+mod talking;
 mod worked;
 mod working;
 
 pub use actor::Actor;
+pub use talked::Talked;
+pub use talking::talk_once;
 pub use worked::Worked;
 pub use working::work_once;

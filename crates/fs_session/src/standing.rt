@@ -1,25 +1,29 @@
 //! How an actor stands, as a look finds it.
 
-ghost use Rattle.std.specs.Prelude.{◌≡◌};
+ghost use Rattle.std.specs.Prelude.{◌≡◌, true};
+ghost use Rattle.std.specs.Option.{option_copied};
 ghost use Rattle.fs_machine.specs.Runs.{state_of};
 ghost use Rattle.fs_session.specs.Working as spec;
 
 use crate::actor::Actor;
 use fs_book::Ask;
 use fs_machine::{DueActor, Machine, Refusal};
+use fs_text::{Memory, Txt};
 
 /// How an actor stands at a moment.
-#[derive(Clone, Copy, Debug)]
+#[derive(Drop)]
 pub(crate) enum Standing {
     /// The journal is full, and so every entry is refused.
     Full(Refusal),
     /// The switch has come to its end, and nothing of the actor is left.
     Over,
+    /// Its channel waits for the controller that this text names.
+    Seeks(Txt),
     /// This is to be done, at once or later.
     Due(DueActor),
 }
 
-/// The question how an actor stands at a moment.
+/// The question how an actor stands at a moment. It is not answered where there is no memory.
 #[derive(Clone, Copy, Debug)]
 pub(crate) struct StandingOf {
     pub(crate) actor: Actor,
@@ -29,16 +33,21 @@ pub(crate) struct StandingOf {
 impl Ask<Machine> for StandingOf {
     ghost use Rattle.fs_session.specs.Working.{TellsActor};
 
-    type Answer = Standing;
+    type Answer = Result<Standing, Memory>;
 
     ghost tells = { TellsActor };
 
-    fn ask(&self, state: &Machine) -> Standing {
+    fn ask(&self, state: &Machine) -> Result<Standing, Memory> {
         state.sound();
-        match state.full() {
-            Some(refusal) => Standing::Full(refusal),
-            None if is_over(self.actor, state) => Standing::Over,
-            None => Standing::Due(due_at(self.actor, self.now, state)),
+        if let Some(refusal) = state.full() {
+            return Ok(Standing::Full(refusal));
+        }
+        if is_over(self.actor, state) {
+            return Ok(Standing::Over);
+        }
+        match sought_by(self.actor, state) {
+            Some(text) => Ok(Standing::Seeks(text.copy()?)),
+            None => Ok(Standing::Due(due_at(self.actor, self.now, state))),
         }
     }
 }
@@ -52,6 +61,16 @@ fn is_over(actor: Actor, state: &Machine) -> bool
     match actor {
         Actor::Slot(slot) => state.stopping() && !state.holds(slot),
         Actor::Jobs => state.stopping(),
+    }
+}
+
+// The text that names the controller for whom the actor's channel waits, if it waits for one.
+fn sought_by(actor: Actor, state: &Machine) -> Option<&Txt>
+    ensures { option_copied result ≡ spec.sought_by actor (state_of state.now) }
+{
+    match actor {
+        Actor::Slot(slot) => state.dial_text(slot),
+        Actor::Jobs => None,
     }
 }
 

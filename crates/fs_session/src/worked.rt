@@ -1,16 +1,19 @@
 //! What comes of a turn.
 
 use fs_machine::Refusal;
+use fs_out::Target;
 use fs_ports::Wakes;
 
 /// What comes of a turn.
-#[derive(Clone, Copy, Debug, PartialEq, Eq)]
+#[derive(Drop)]
 pub enum Worked {
     /// The one thing that was to be done is done, by the entry at this place in the journal; these may have something
     /// to do since.
     Did(u64, Wakes),
     /// There is nothing to do before this moment, in microseconds, or unless others bring something.
     Idle { next: Option<u64> },
+    /// The channel in the slot waits for this controller, who is to be dialed.
+    Talk(Target),
     /// The switch has come to its end, and nothing of this actor is left.
     Stopped,
     /// The journal is full, or there was no memory.

@@ -1,7 +1,8 @@
 //! A turn, beside others who enter.
 
-ghost use Rattle.std.specs.Prelude.{◌≡◌};
+ghost use Rattle.std.specs.Prelude.{◌≡◌, true};
 ghost use Rattle.fs_book.specs.Passes.{seen, mine, met, parts, opening_state, IsPassOf};
+ghost use Rattle.fs_machine.specs.Controlling.{names_target};
 ghost use Rattle.fs_machine.specs.Turned.{configured};
 ghost use Rattle.fs_session.specs.Working as spec;
 
@@ -10,16 +11,19 @@ use crate::standing::{Standing, StandingOf};
 use crate::worked::Worked;
 use fs_book::{Book, Pass};
 use fs_machine::{Act, DueActor, Entry, Machine, Refusal};
+use fs_out::{Target, TargetFault};
+use fs_text::Txt;
+use std::alloc::Global;
 use std::sync::Wait;
 
-/// Does the one thing that an actor has to do at a moment, in microseconds, if there is any.
-///
-/// A channel that waits for a controller goes on without one: none is dialed yet.
+/// Does the one thing that an actor has to do at a moment, in microseconds, if there is any. A channel that waits for a
+/// controller waits on: the answer says who is to be dialed, as `talk_once` does.
 ///
 /// A slot is tried first and looked at only where it has nothing to do, so a busy one takes one turn of the lock for
 /// each entry. It never waits for anybody but those before it at the lock.
 pub fn work_once<R: Wait>(
     rt: &R,
+    alloc: Global,
     book: &Book<Machine>,
     pass: &mut Pass<Machine>,
     actor: Actor,
@@ -31,11 +35,11 @@ pub fn work_once<R: Wait>(
     ensures works { spec.Works (configured (opening_state book.now)) (seen pass.old) (mine pass.old)
         (seen pass.new) (mine pass.new) actor now result }
 {
-    let mut tried = begin(rt, book, pass, actor, now);
+    let mut tried = begin(rt, alloc, book, pass, actor, now);
     'turns: for _ in rt.forever() {
         match tried {
             Some(worked) => return worked,
-            None => tried = take_turn(rt, book, pass, actor, now),
+            None => tried = take_turn(rt, alloc, book, pass, actor, now),
         }
     }
     unreachable!()
@@ -44,6 +48,7 @@ pub fn work_once<R: Wait>(
 // Tries a slot, or looks how the jobs stand.
 fn begin<R: Wait>(
     rt: &R,
+    alloc: Global,
     book: &Book<Machine>,
     pass: &mut Pass<Machine>,
     actor: Actor,
@@ -57,13 +62,14 @@ fn begin<R: Wait>(
 {
     match actor {
         Actor::Slot(slot) => attempt(rt, book, pass, Errand::Slot(slot), now),
-        Actor::Jobs => take_turn(rt, book, pass, actor, now),
+        Actor::Jobs => take_turn(rt, alloc, book, pass, actor, now),
     }
 }
 
 // Looks how an actor stands, and does what it has to do. Where others came between, nothing comes of it.
 fn take_turn<R: Wait>(
     rt: &R,
+    alloc: Global,
     book: &Book<Machine>,
     pass: &mut Pass<Machine>,
     actor: Actor,
@@ -75,25 +81,43 @@ fn take_turn<R: Wait>(
     ensures tries { spec.Tries (configured (opening_state book.now)) (seen pass.old) (mine pass.old)
         (seen pass.new) (mine pass.new) actor now result }
 {
-    let standing = book.look(rt, pass, &StandingOf { actor, now });
-    match judge(standing) {
-        Ok(errand) => attempt(rt, book, pass, errand, now),
-        Err(worked) => Some(worked),
+    let Ok(standing) = book.look(rt, pass, &StandingOf { actor, now }) else {
+        return Some(Worked::Refused(Refusal::Memory));
+    };
+    match standing {
+        Standing::Full(refusal) => Some(Worked::Refused(refusal)),
+        Standing::Over => Some(Worked::Stopped),
+        Standing::Seeks(text) => Some(talk(alloc, &text)),
+        Standing::Due(due) => match errand_of(due) {
+            Ok(errand) => attempt(rt, book, pass, errand, now),
+            Err(next) => Some(Worked::Idle { next }),
+        },
     }
 }
 
-// What is to be done where an actor stands so, or else what comes of its turn.
-fn judge(standing: Standing) -> Result<Errand, Worked>
-    ensures { result ≡ spec.judged standing }
+// Who is to be dialed, by the text that names the controller for whom a channel waits.
+fn talk(alloc: Global, text: &Txt) -> Worked
+    requires { names_target text.now ≡ true }
+    ensures { spec.Talks text.now result }
 {
-    match standing {
-        Standing::Full(refusal) => Err(Worked::Refused(refusal)),
-        Standing::Over => Err(Worked::Stopped),
-        Standing::Due(DueActor::Never) => Err(Worked::Idle { next: None }),
-        Standing::Due(DueActor::Later(next)) => Err(Worked::Idle { next: Some(next) }),
-        Standing::Due(DueActor::Slot(slot)) => Ok(Errand::Slot(slot)),
-        Standing::Due(DueActor::Dial(slot)) => Ok(Errand::Dial(slot)),
-        Standing::Due(DueActor::Job(job)) => Ok(Errand::Job(job)),
+    match Target::of(alloc, text.as_bytes()) {
+        Ok(target) => Worked::Talk(target),
+        Err(TargetFault::Memory) => Worked::Refused(Refusal::Memory),
+        Err(_) => unreachable!(),
+    }
+}
+
+// What is to be done, or the moment before which there is nothing to do, if there is one.
+fn errand_of(due: DueActor) -> Result<Errand, Option<u64>>
+    requires { spec.IsErrand due }
+    ensures { result ≡ spec.errand_of due }
+{
+    match due {
+        DueActor::Slot(slot) => Ok(Errand::Slot(slot)),
+        DueActor::Job(job) => Ok(Errand::Job(job)),
+        DueActor::Later(next) => Err(Some(next)),
+        DueActor::Never => Err(None),
+        DueActor::Dial(_) => unreachable!(),
     }
 }
 
@@ -125,16 +149,12 @@ fn act_of(errand: Errand) -> Act
 {
     match errand {
         Errand::Slot(slot) => Act::Work { slot },
-        Errand::Dial(slot) => Act::Dialed {
-            slot,
-            linked: false,
-        },
         Errand::Job(job) => Act::Job { job },
     }
 }
 
-// Whether no later try can do better.
-fn is_final(refusal: Refusal) -> bool
+/// Whether no later try can do better.
+pub(crate) fn is_final(refusal: Refusal) -> bool
     ensures { result ≡ spec.is_final refusal }
 {
     matches!(refusal, Refusal::JournalFull { .. } | Refusal::Memory)

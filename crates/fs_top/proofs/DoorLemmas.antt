@@ -1,5 +1,5 @@
 -- What the one at the door counts and enters.
-use Rattle.std.proofs.Common.{◌≡◌, ℕ, ◌+◌, ◌<◌, ◌≤◌, ◌⊎◌, inl, inr, List, [], ◌∷◌, ◌++◌, length, Option, Some, refl, sym, ap, subst, ◌∙◌, arith}
+use Rattle.std.proofs.Common.{◌≡◌, ℕ, ◌+◌, ◌<◌, ◌≤◌, ◌⊎◌, inl, inr, List, [], ◌∷◌, ◌++◌, length, Option, None, Some, refl, sym, ap, subst, ◌∙◌, arith}
 use Rattle.std.proofs.lemmas.Option.{none-some}
 use mathlib.Core.List.{IsPrefix}
 use mathlib.Core.Logic.{dite}
@@ -20,7 +20,7 @@ use Rattle.fs_machine.proofs.RunLemmas.{is_run_more}
 use Rattle.fs_conn.specs.Owning.{entry_at}
 use Rattle.fs_top.specs.declared.conns.Conn.{Conn}
 use Rattle.fs_top.specs.Doors.{Rose, Halts}
-use Rattle.fs_top.specs.Lanes.{MayEnter, Keeps}
+use Rattle.fs_top.specs.Lanes.{Enters, Keeps}
 use Rattle.fs_top.proofs.LaneLemmas.{keeps_looked, keeps_entered, keeps_may}
 
 rose_or : (old new : ℕ) → (new < 18446744073709551615 → old < new) → Rose old new
@@ -61,22 +61,23 @@ module _ {L : Type 0} (input : L → Input) (output : L → Output) (may : ℕ �
     (is : start ≡ Some config) (has : rose) (met_is : met' ≡ met)
     (below : (k : ℕ) (l : List ℕ) → get_elem? (mine ∷ met) k ≡ some l → (p : ℕ) → 0 < times p l → p < length seen)
     (owned : Owned opens names start (mine' ∷ met') seen')
-    (keeps : Keeps input output (MayEnter may rose) config seen (mine ∷ met) conns) where
-  pub keeps_halts : Halts may config seen mine seen' mine' → Keeps input output (MayEnter may rose) config seen' (mine' ∷ met') conns
+    (keeps : Keeps input output (Enters may rose None) config seen (mine ∷ met) conns) where
+  pub keeps_halts : Halts may config seen mine seen' mine' → Keeps input output (Enters may rose None) config seen' (mine' ∷ met') conns
   keeps_halts (inl h) =
-      subst (λ (ms : List (List ℕ)). Keeps input output (MayEnter may rose) config seen' (mine' ∷ ms) conns) (sym met_is)
-      (keeps_entered input output (MayEnter may rose) config start seen h.before seen' mine mine' met conns (length h.before)
-      (entry_at h.moment Halt) is h.front h.sees refl h.more refl (λ log n opened. none-some n opened) (h.told, λ _. has) h.run below
+      subst (λ (ms : List (List ℕ)). Keeps input output (Enters may rose None) config seen' (mine' ∷ ms) conns) (sym met_is)
+      (keeps_entered input output (Enters may rose None) config start seen h.before seen' mine mine' met conns (length h.before)
+      (entry_at h.moment Halt) is h.front h.sees refl h.more refl (λ n opened. none-some n opened)
+      ((h.told, λ _. has), λ slot linked dialed. absurd (cc dialed)) h.run below
       (subst (λ (ms : List (List ℕ)). Owned opens names start (mine' ∷ ms) seen') met_is owned) keeps)
   keeps_halts (inr h) =
-      keeps_looked input output (MayEnter may rose) config start seen seen' mine mine' met met' conns is h.front h.same met_is below owned
+      keeps_looked input output (Enters may rose None) config start seen seen' mine mine' met met' conns is h.front h.same met_is below owned
       h.run keeps
 
 -- once the count has risen, the one at the door may halt the switch
 pub may_halt : {L : Type 0} (input : L → Input) (output : L → Output) (may : ℕ → Type 0) (config : Configuration) (seen : List Entry)
     (lists : List (List ℕ)) (conns : List (Conn L)) (old now new : ℕ) → (Rose old now → Rose old new)
-    → Keeps input output (MayEnter may (Rose old now)) config seen lists conns
-    → Keeps input output (MayEnter may (Rose old new)) config seen lists conns
+    → Keeps input output (Enters may (Rose old now) None) config seen lists conns
+    → Keeps input output (Enters may (Rose old new) None) config seen lists conns
 may_halt input output may config seen lists conns old now new rose keeps =
-    keeps_may input output (MayEnter may (Rose old now)) (MayEnter may (Rose old new)) config seen lists conns
-    (λ entry told. (told.0, λ is. rose (told.1 is))) keeps
+    keeps_may input output (Enters may (Rose old now) None) (Enters may (Rose old new) None) config seen lists conns
+    (λ entry told. ((told.0.0, λ is. rose (told.0.1 is)), told.1)) keeps

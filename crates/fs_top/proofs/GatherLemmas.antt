@@ -25,7 +25,7 @@ use Rattle.fs_machine.specs.Turned.{IsJournal, comes_after, opens, names}
 use Rattle.fs_conn.specs.declared.end.End.{End}
 use Rattle.fs_conn.proofs.ToldLemmas.{told_up}
 use Rattle.fs_top.specs.declared.conns.Conn.{Conn}
-use Rattle.fs_top.specs.Lanes.{IsHeld, IsServed, AreAll, AreOnce, MayEnter, number_of, Keeps}
+use Rattle.fs_top.specs.Lanes.{IsHeld, IsServed, AreAll, AreOnce, MayEnter, Enters, number_of, Keeps}
 use Rattle.fs_top.specs.Headline.{Headline}
 
 le_or_lt : (a b : ℕ) → (a ≤ b) ⊎ (b < a)
@@ -289,26 +289,28 @@ one_of : (P : List Entry → Type 0) (test : Bool) (xs ys : List Entry) → P xs
 one_of P true xs ys first second = second
 one_of P false xs ys first second = first
 
--- A pass keeps what it kept and what a lane kept that was met into it. The lane never halted the switch.
-pub keeps_lane : {L : Type 0} (input : L → Input) (output : L → Output) (may : ℕ → Type 0) (halts : Type 0) (config : Configuration)
+-- A pass keeps what it kept and what another one kept that was met into it.
+pub keeps_joined : {L : Type 0} (input : L → Input) (output : L → Output) (may may1 may2 : Entry → Type 0) (config : Configuration)
     (start : Option Configuration) (seen1 seen2 seen' : List Entry) (mine1 mine2 mine' : List ℕ) (met1 met2 met' : List (List ℕ))
-    (conns1 conns2 conns' : List (Conn L)) → start ≡ Some config
-    → IsPrefix seen1 seen' × IsPrefix seen2 seen' × (seen' ≡ longer seen1 seen2) → (mine' ≡ mine1) × (met' ≡ met1 ++ mine2 ∷ met2)
-    → conns' ≡ conns1 ++ conns2
+    (conns1 conns2 conns' : List (Conn L)) → ((entry : Entry) → may1 entry → may entry) → ((entry : Entry) → may2 entry → may entry)
+    → start ≡ Some config → IsPrefix seen1 seen' × IsPrefix seen2 seen' × (seen' ≡ longer seen1 seen2)
+    → (mine' ≡ mine1) × (met' ≡ met1 ++ mine2 ∷ met2) → conns' ≡ conns1 ++ conns2
     → ((k : ℕ) (l : List ℕ) → get_elem? (mine1 ∷ met1) k ≡ some l → (p : ℕ) → 0 < times p l → p < length seen1)
     → ((k : ℕ) (l : List ℕ) → get_elem? (mine2 ∷ met2) k ≡ some l → (p : ℕ) → 0 < times p l → p < length seen2)
-    → Owned opens names start (mine' ∷ met') seen' → Keeps input output (MayEnter may ⊥) config seen2 (mine2 ∷ met2) conns2
-    → Keeps input output (MayEnter may halts) config seen1 (mine1 ∷ met1) conns1
-    → Keeps input output (MayEnter may halts) config seen' (mine' ∷ met') conns'
-keeps_lane {L} input output may halts config start seen1 seen2 seen' mine1 mine2 mine' met1 met2 met' conns1 conns2 conns' is seens lists items
-    below1 below2 owned keeps2 keeps1 =
+    → Owned opens names start (mine' ∷ met') seen' → Keeps input output may2 config seen2 (mine2 ∷ met2) conns2
+    → Keeps input output may1 config seen1 (mine1 ∷ met1) conns1 → Keeps input output may config seen' (mine' ∷ met') conns'
+keeps_joined {L} input output may may1 may2 config start seen1 seen2 seen' mine1 mine2 mine' met1 met2 met' conns1 conns2 conns' weaker1
+    weaker2 is seens lists items below1 below2 owned keeps2 keeps1 =
     let lists_is : mine' ∷ met' ≡ (mine1 ∷ met1) ++ mine2 ∷ met2 = cc (lists.0, lists.1) in
     let run =
     subst (λ (log : List Entry). IsJournal config log) (sym seens.2)
     (one_of (λ (log : List Entry). IsJournal config log) (nat_lt (length seen1) (length seen2)) seen1 seen2 keeps1.run keeps2.run) in
     let owned' = subst (λ (ls : List (List ℕ)). Owned opens names start ls seen') lists_is owned in
-    subst (λ (ls : List (List ℕ)). Keeps input output (MayEnter may halts) config seen' ls conns') (sym lists_is)
-    (subst (λ (cs : List (Conn L)). Keeps input output (MayEnter may halts) config seen' ((mine1 ∷ met1) ++ mine2 ∷ met2) cs) (sym items)
+    subst (λ (ls : List (List ℕ)). Keeps input output may config seen' ls conns') (sym lists_is)
+    (subst (λ (cs : List (Conn L)). Keeps input output may config seen' ((mine1 ∷ met1) ++ mine2 ∷ met2) cs) (sym items)
     (keeps_met config start is seen1 seen2 seen' (mine1 ∷ met1) (mine2 ∷ met2) seens.0 seens.1 below1 below2 owned' run input output
-    (MayEnter may halts) (MayEnter may halts) (MayEnter may ⊥) conns1 conns2 (λ entry allowed. allowed)
-    (λ entry allowed. (allowed.0, λ halt. absurd (allowed.1 halt))) keeps1 keeps2))
+    may may1 may2 conns1 conns2 weaker1 weaker2 keeps1 keeps2))
+
+-- what a lane may enter that never halts the switch may be entered
+pub enters_less : (may : ℕ → Type 0) (halts : Type 0) (own : Option ℕ) (entry : Entry) → Enters may ⊥ own entry → MayEnter may halts entry
+enters_less may halts own entry entered = (entered.0.0, λ halt. absurd (entered.0.1 halt))

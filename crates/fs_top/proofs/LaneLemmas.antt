@@ -2,7 +2,6 @@
 use Rattle.std.proofs.Common.{◌≡◌, ◌≢◌, ℕ, zero, suc, ◌+◌, ◌<◌, ◌≤◌, ◌⊎◌, inl, inr, Bool, List, [], ◌∷◌, ◌++◌, length, Option, None, Some, refl, sym}
 use Rattle.std.proofs.Common.{ap, subst, ◌∙◌, cond, eqb, arith, append_assoc, append-nil, length-append}
 use Rattle.std.specs.Prelude.{slice_get, slice_index_or, take, map, if◌then◌else◌, is_some, true, false}
-use Rattle.fs_text.specs.Texts.{Text}
 use Rattle.std.specs.List.{All, AllByRecursion, Contains}
 use Rattle.std.proofs.lemmas.Bool.{cases_eq}
 use Rattle.std.proofs.lemmas.Bool.Decides.{nat_tests}
@@ -26,22 +25,22 @@ use Rattle.fs_machine.specs.declared.entry.Entry.{Entry}
 use Rattle.fs_machine.specs.declared.entry.Act.{Act}
 use Rattle.fs_machine.specs.declared.entry.Act.TheVariants.{Arrive, Command, Take, Close, Dialed, Work, Job, Halt}
 use Rattle.fs_machine.specs.Concerns.{actor_of}
-use Rattle.fs_machine.specs.Controlling.{dial_at, number_of_hold}
-use Rattle.fs_machine.specs.Turned.{IsJournal, opens, names, comes_by, comes_after}
+use Rattle.fs_machine.specs.declared.reply.Reply.{Reply}
+use Rattle.fs_machine.specs.Turned.{IsJournal, Answers, opens, names, comes_by, comes_after}
 use Rattle.fs_conn.specs.declared.end.End.{End}
-use Rattle.fs_conn.specs.Owning.{OwnsConn, entry_at, Welcomed}
+use Rattle.fs_conn.specs.Owning.{OwnsConn, entry_at}
 use Rattle.fs_conn.specs.Talks.{Told, Gains, MadeAt}
 use Rattle.fs_conn.proofs.ToldLemmas.{told_up}
 use Rattle.fs_session.specs.declared.actor.Actor.{Actor}
 use Rattle.fs_session.specs.declared.actor.Actor.TheVariants.{Slot, Jobs}
 use Rattle.fs_session.specs.declared.worked.Worked.{Worked}
-use Rattle.fs_session.specs.declared.worked.Worked.TheVariants.{Did, Idle, Stopped, Refused}
+use Rattle.fs_session.specs.declared.worked.Worked.TheVariants.{Did, Idle, Talk, Stopped, Refused}
 use Rattle.fs_session.specs.Working.{Works, Stays, IsTurnOf}
 use Rattle.fs_state.specs.Switch.{Switch, empty}
 use Rattle.fs_machine.specs.Laws.{state_after}
 use Rattle.fs_machine.proofs.RunLemmas.{is_run_more}
 use Rattle.fs_top.specs.declared.conns.Conn.{Conn}
-use Rattle.fs_top.specs.Lanes.{IsHeld, IsServed, AreAll, AreOnce, AreAllowed, MayEnter, Keeps, number_of}
+use Rattle.fs_top.specs.Lanes.{IsHeld, IsServed, AreAll, AreOnce, AreAllowed, Enters, Keeps, number_of}
 
 -- a place of two lists together stands in one of them
 pub times_either : (p : ℕ) (front back : List ℕ) → 0 < times p (front ++ back) → (0 < times p front) ⊎ (0 < times p back)
@@ -235,43 +234,45 @@ named_opens_none : (config : Configuration) (log : List Entry) (entry : Entry) (
     opens config log entry ≢ Some n
 named_opens_none config log entry conn n named opened = opens_none config entry.act log conn n named opened
 
--- what a served link leaves
-module _ (may : ℕ → Type 0) (halts : Type 0) (config : Configuration) (start : Option Configuration) (is : start ≡ Some config)
-    (seen seen' seen'' : List Entry) (mine mine' mine'' : List ℕ) (met : List (List ℕ))
+-- what a served link leaves, whose connection came by an entry of the pass
+module _ (may : ℕ → Type 0) (halts : Type 0) (own : Option ℕ) (config : Configuration) (start : Option Configuration)
+    (is : start ≡ Some config) (seen seen' seen'' : List Entry) (mine mine' mine'' : List ℕ) (met : List (List ℕ))
     (below : (k : ℕ) (l : List ℕ) → get_elem? (mine ∷ met) k ≡ some l → (p : ℕ) → 0 < times p l → p < length seen) (conn : ℕ)
-    (welcomed : Welcomed may config seen mine seen' mine' conn) (later : IsPrefix seen' seen'')
-    (gains : Gains may conn mine' seen'' mine'') (owned : Owned opens names start (mine'' ∷ met) seen'') where
+    (before : List Entry) (coming : Entry) (front : IsPrefix seen before) (sees : seen' ≡ before ++ coming ∷ [])
+    (more : mine' ≡ mine ++ length before ∷ []) (opened_by : opens config before coming ≡ Some conn) (unnamed : names coming ≡ None)
+    (entered : Enters may halts own coming) (later : IsPrefix seen' seen'') (gains : Gains may conn mine' seen'' mine'')
+    (owned : Owned opens names start (mine'' ∷ met) seen'') where
   abbrev place : ℕ
-  place = length welcomed.before
+  place = length before
 
   abbrev gained : List ℕ
   gained = place ∷ gains.places
 
   all_mine : mine'' ≡ mine ++ gained
-  all_mine = gains.more ∙ (ap (λ (ps : List ℕ). ps ++ gains.places) welcomed.more ∙ append_assoc mine (place ∷ []) gains.places)
+  all_mine = gains.more ∙ (ap (λ (ps : List ℕ). ps ++ gains.places) more ∙ append_assoc mine (place ∷ []) gains.places)
 
   whole : IsPrefix seen seen''
   whole =
       prefix_trans seen seen' seen''
-      (prefix_trans seen welcomed.before seen' welcomed.front (entry_at welcomed.moment Arrive ∷ [], sym welcomed.sees)) later
+      (prefix_trans seen before seen' front (coming ∷ [], sym sees)) later
 
-  coming_at : slice_get seen'' place ≡ Some (entry_at welcomed.moment Arrive)
+  coming_at : slice_get seen'' place ≡ Some coming
   coming_at =
-      prefix_get seen' seen'' place (entry_at welcomed.moment Arrive) later
-      (ap (λ (log : List Entry). slice_get log place) welcomed.sees ∙ last_get welcomed.before (entry_at welcomed.moment Arrive))
+      prefix_get seen' seen'' place coming later
+      (ap (λ (log : List Entry). slice_get log place) sees ∙ last_get before coming)
 
-  taken : take place seen'' ≡ welcomed.before
+  taken : take place seen'' ≡ before
   taken =
       prefix_take seen' seen'' place later
-      (subst (λ (log : List Entry). place ≤ length log) (sym welcomed.sees)
-      (omega (arith, length-append welcomed.before (entry_at welcomed.moment Arrive ∷ []))))
-      ∙ (ap (λ (log : List Entry). take place log) welcomed.sees ∙ last_take welcomed.before (entry_at welcomed.moment Arrive))
+      (subst (λ (log : List Entry). place ≤ length log) (sym sees)
+      (omega (arith, length-append before (coming ∷ []))))
+      ∙ (ap (λ (log : List Entry). take place log) sees ∙ last_take before coming)
 
   abbrev opened_at : OpensAt opens config seen'' place conn
   opened_at = (
-    entry_at welcomed.moment Arrive,
+    coming,
     coming_at,
-    ap (λ (log : List Entry). opens config log (entry_at welcomed.moment Arrive)) taken ∙ welcomed.opened,
+    ap (λ (log : List Entry). opens config log coming) taken ∙ opened_by,
   )
 
   times_gained : (p : ℕ) → 0 < times p gained → (place ≡ p) ⊎ MadeAt may conn seen'' p
@@ -279,9 +280,9 @@ module _ (may : ℕ → Type 0) (halts : Type 0) (config : Configuration) (start
       elim (times_either p (place ∷ []) gains.places has)
       [ inl here ↦ inl (eq_or_not p place here) | inr there ↦ inr (each_of (MadeAt may conn seen'') gains.places gains.each p there) ]
 
-  is_coming : (p : ℕ) (entry : Entry) → place ≡ p → slice_get seen'' p ≡ Some entry → entry_at welcomed.moment Arrive ≡ entry
+  is_coming : (p : ℕ) (entry : Entry) → place ≡ p → slice_get seen'' p ≡ Some entry → coming ≡ entry
   is_coming p entry here at =
-      same_Some (entry_at welcomed.moment Arrive) entry (sym coming_at ∙ (ap (λ q. slice_get seen'' q) here ∙ at))
+      same_Some coming entry (sym coming_at ∙ (ap (λ q. slice_get seen'' q) here ∙ at))
 
   owned_all : Owned opens names start ((mine ++ gained) ∷ met) seen''
   owned_all = subst (λ (ps : List ℕ). Owned opens names start (ps ∷ met) seen'') all_mine owned
@@ -293,14 +294,14 @@ module _ (may : ℕ → Type 0) (halts : Type 0) (config : Configuration) (start
       let inside = below held.at held.places held.there q held.owns.1 in
       let opened = subst (λ n. OpensAt opens config seen'' q n) same (opens_up opens config seen seen'' q number whole held.owns.2) in
       let once : q ≡ place = by_history_once comes_after config seen'' q place conn opened opened_at in
-      let lasts = ap length welcomed.front.1 in
-      let joined = length-append seen welcomed.front.0 in omega (arith, inside, once, lasts, joined)
+      let lasts = ap length front.1 in
+      let joined = length-append seen front.0 in omega (arith, inside, once, lasts, joined)
 
   apart : (number : ℕ) → number ≢ conn → (p : ℕ) (entry : Entry) → 0 < times p gained → slice_get seen'' p ≡ Some entry →
       names entry ≢ Some number
   apart number differs p entry has at named =
       elim (times_gained p has) [
-        | inl here ↦ absurd (none-some number (ap names (is_coming p entry here at) ∙ named))
+        | inl here ↦ absurd (none-some number (sym unnamed ∙ (ap names (is_coming p entry here at) ∙ named)))
         | inr made ↦
             let same : made.0 ≡ entry = same_Some made.0 entry (sym made.1 ∙ at) in
             absurd (differs (same_Some number conn (sym named ∙ (sym (ap names same) ∙ made.2))))
@@ -313,7 +314,7 @@ module _ (may : ℕ → Type 0) (halts : Type 0) (config : Configuration) (start
             let same = is_coming p opened.0 here opened.1 in
             let number_is : ◌≡◌ {A = Option ℕ} (Some conn) (Some n) =
             sym opened_at.2
-            ∙ (ap (λ q. opens config (take q seen'') (entry_at welcomed.moment Arrive)) here
+            ∙ (ap (λ q. opens config (take q seen'') coming) here
             ∙ (ap (λ (e : Entry). opens config (take p seen'') e) same ∙ opened.2)) in
             Contains-append_right numbers (conn ∷ []) n (0, omega arith, same_Some conn n number_is)
         | inr made ↦
@@ -321,15 +322,30 @@ module _ (may : ℕ → Type 0) (halts : Type 0) (config : Configuration) (start
             absurd (named_opens_none config (take p seen'') opened.0 conn n (sym (ap names same) ∙ made.2) opened.2)
       ]
 
-  new_allowed : (p : ℕ) (entry : Entry) → 0 < times p gained → slice_get seen'' p ≡ Some entry → MayEnter may halts entry
+  new_allowed : (p : ℕ) (entry : Entry) → 0 < times p gained → slice_get seen'' p ≡ Some entry → Enters may halts own entry
   new_allowed p entry has at =
       elim (times_gained p has) [
-        | inl here ↦
-            subst (λ (e : Entry). MayEnter may halts e) (is_coming p entry here at) (welcomed.told, λ halted. absurd (cc halted))
+        | inl here ↦ subst (λ (e : Entry). Enters may halts own e) (is_coming p entry here at) entered
         | inr made ↦
             let same : made.0 ≡ entry = same_Some made.0 entry (sym made.1 ∙ at) in
-            subst (λ (e : Entry). MayEnter may halts e) same
-            (made.3, λ halted. absurd (none-some conn (sym (ap actor_of halted) ∙ made.2)))
+            subst (λ (e : Entry). Enters may halts own e) same (
+              (made.3, λ halted. absurd (none-some conn (sym (ap actor_of halted) ∙ made.2))),
+              λ slot linked dialed. absurd (none-some conn (sym (ap actor_of dialed) ∙ made.2)),
+            )
+      ]
+
+  -- what fails for the entry by which it came, and for each that names it, fails at all places that were gained
+  pub gained_fails : (test : Entry → Bool) → test coming ≡ false → ((entry : Entry) → names entry ≡ Some conn → test entry ≡ false) →
+      (p : ℕ) (entry : Entry) → 0 < times p (mine ++ gained) → (0 < times p mine → ⊥) → slice_get seen'' p ≡ Some entry →
+      test entry ≡ false
+  gained_fails test first others p entry has old at =
+      elim (times_either p mine gained has) [
+        | inl before ↦ absurd (old before)
+        | inr new ↦
+            elim (times_gained p new) [
+              | inl here ↦ ap test (sym (is_coming p entry here at)) ∙ first
+              | inr made ↦ others entry (ap names (sym (same_Some made.0 entry (sym made.1 ∙ at))) ∙ made.2)
+            ]
       ]
 
   -- the number of the new connection stands among them once
@@ -354,12 +370,12 @@ module _ (may : ℕ → Type 0) (halts : Type 0) (config : Configuration) (start
   -- the lane keeps those that it served, and the new one
   pub keeps_served : {L : Type 0} (input : L → Input) (output : L → Output) (conns : List (Conn L)) (new : Conn L) (in0 : Input)
       (out0 : Output) (in1 : Input) (out1 : Output) → conn ≡ new.number → input new.link ≡ in1 → output new.link ≡ out1
-      → Keeps input output (MayEnter may halts) config seen (mine ∷ met) conns → IsNewLink in0 out0
+      → Keeps input output (Enters may halts own) config seen (mine ∷ met) conns → IsNewLink in0 out0
       → IsJournal config seen'' → OwnsConn config conn seen'' mine''
       → Told config conn in0 out0 seen'' in1 out1 new.end
-      → Keeps input output (MayEnter may halts) config seen'' (mine'' ∷ met) (conns ++ new ∷ [])
+      → Keeps input output (Enters may halts own) config seen'' (mine'' ∷ met) (conns ++ new ∷ [])
   keeps_served input output conns new in0 out0 in1 out1 number input_is output_is keeps is_new run owns told =
-      subst (λ (ps : List ℕ). Keeps input output (MayEnter may halts) config seen'' (ps ∷ met) (conns ++ new ∷ [])) (sym all_mine) (record {
+      subst (λ (ps : List ℕ). Keeps input output (Enters may halts own) config seen'' (ps ∷ met) (conns ++ new ∷ [])) (sym all_mine) (record {
         run = run;
         served =
             All-push
@@ -395,7 +411,7 @@ module _ (may : ℕ → Type 0) (halts : Type 0) (config : Configuration) (start
             subst (λ (ns : List ℕ). AreOnce config seen'' ((mine ++ gained) ∷ met) ns)
             (ap (λ n. map number_of conns ++ n ∷ []) number ∙ sym (map-append number_of conns (new ∷ [])))
             (new_once conns (λ k d inside. (keeps.served k d inside).held) keeps.once);
-        allowed = allowed_on config seen seen'' mine gained met whole below (MayEnter may halts) keeps.allowed new_allowed;
+        allowed = allowed_on config seen seen'' mine gained met whole below (Enters may halts own) keeps.allowed new_allowed;
       })
 
 -- what may be entered by a lane may be entered by one that may enter more
@@ -458,11 +474,17 @@ one_place p place log log' entry entry' sees at has there =
     same_Some entry entry'
     (sym (last_get log entry) ∙ (ap (λ (l : List Entry). slice_get l (length log)) (sym sees) ∙ (ap (λ q. slice_get log' q) here ∙ there)))
 
+taken_before : (p place : ℕ) (log log' : List Entry) (entry : Entry) → log' ≡ log ++ entry ∷ [] → place ≡ length log →
+    0 < times p (place ∷ []) → take p log' ≡ log
+taken_before p place log log' entry sees at has =
+    let here : p ≡ length log = sym (eq_or_not p place has) ∙ at in
+    ap (λ (n : ℕ). take n log') here ∙ (ap (λ (l : List Entry). take (length log) l) sees ∙ last_take log entry)
+
 -- a lane that entered one such entry keeps what it kept
 pub keeps_entered : {L : Type 0} (input : L → Input) (output : L → Output) (may : Entry → Type 0) (config : Configuration)
     (start : Option Configuration) (seen before seen' : List Entry) (mine mine' : List ℕ) (met : List (List ℕ)) (conns : List (Conn L))
     (place : ℕ) (entry : Entry) → start ≡ Some config → IsPrefix seen before → seen' ≡ before ++ entry ∷ [] → place ≡ length before
-    → mine' ≡ mine ++ place ∷ [] → names entry ≡ None → ((log : List Entry) (n : ℕ) → opens config log entry ≢ Some n)
+    → mine' ≡ mine ++ place ∷ [] → names entry ≡ None → ((n : ℕ) → opens config before entry ≢ Some n)
     → may entry → IsJournal config seen'
     → ((k : ℕ) (l : List ℕ) → get_elem? (mine ∷ met) k ≡ some l → (p : ℕ) → 0 < times p l → p < length seen)
     → Owned opens names start (mine' ∷ met) seen' → Keeps input output may config seen (mine ∷ met) conns
@@ -485,9 +507,10 @@ keeps_entered input output may config start seen before seen' mine mine' met con
           all_on config seen seen' mine (place ∷ []) met whole below (map number_of conns) (map number_of conns) (λ n there. there) keeps.all
           (λ p n has opened.
           absurd
-          (closed (take p seen') n
-          (ap (λ (e : Entry). opens config (take p seen') e) (one_place p place before seen' entry opened.0 sees at has opened.1)
-          ∙ opened.2)));
+          (closed n
+          (ap (λ (log : List Entry). opens config log entry) (sym (taken_before p place before seen' entry sees at has))
+          ∙ (ap (λ (e : Entry). opens config (take p seen') e) (one_place p place before seen' entry opened.0 sees at has opened.1)
+          ∙ opened.2))));
       once =
           once_on config seen seen' mine (place ∷ []) met whole below conns (λ k d inside. (keeps.served k d inside).held) keeps.once;
       allowed =
@@ -495,65 +518,74 @@ keeps_entered input output may config start seen before seen' mine mine' met con
           (λ p e has there. subst may (one_place p place before seen' entry e sees at has there) told);
     })
 
--- without a link no connection comes
-unlinked_opens_none : (config : Configuration) (log : List Entry) (moment slot n : ℕ) →
-    opens config log (entry_at moment (Dialed slot false)) ≢ Some n
-unlinked_opens_none config log moment slot n opened =
-    let e : ◌≡◌ {A = Option ℕ} None (Some n) =
-    sym (ap (λ (b : Bool). opened_where config b log) (no_number (dial_at (state_after config log) slot) (state_after config log)))
-    ∙ opened in none-some n e
-  where
-    no_number : (text : Option Text) (s : Switch) → is_some (number_of_hold text false s) ≡ false
-    no_number None s = refl
-    no_number (Some text) s = refl
+-- what an entry was taken behind is a run, and so is that with the entry
+pub run_behind : (config : Configuration) (before seen' : List Entry) (entry : Entry) (answer : Reply) → seen' ≡ before ++ entry ∷ [] →
+    Answers config before entry answer → IsJournal config seen'
+run_behind config before seen' entry answer sees answers =
+    subst (λ (log : List Entry). IsJournal config log) (sym sees) (record {
+      within = answers.before.within;
+      run = is_run_more (empty config) before entry answers.before.run answers.defined;
+    })
 
-turn_is_open : (who : Actor) (done : Act) (moment : ℕ) → IsTurnOf who done →
-    (names (entry_at moment done) ≡ None) × (done ≢ Halt)
-    × ((config : Configuration) (log : List Entry) (n : ℕ) → opens config log (entry_at moment done) ≢ Some n)
-turn_is_open (Slot slot) done moment (inr is) = (
-  ap (λ a. names (entry_at moment a)) is,
-  λ halted. absurd (cc (is, halted)),
-  λ config log n opened.
-      unlinked_opens_none config log moment slot n (sym (ap (λ a. opens config log (entry_at moment a)) is) ∙ opened),
-)
-turn_is_open (Slot slot) done moment (inl is) = (
-  ap (λ a. names (entry_at moment a)) is,
-  λ halted. absurd (cc (is, halted)),
-  λ config log n opened.
-      let e : ◌≡◌ {A = Option ℕ} None (Some n) = sym (ap (λ a. opens config log (entry_at moment a)) is) ∙ opened in none-some n e,
-)
-turn_is_open Jobs done moment is = (
-  ap (λ a. names (entry_at moment a)) is.1,
-  λ halted. absurd (cc (is.1, halted)),
-  λ config log n opened.
-      let e : ◌≡◌ {A = Option ℕ} None (Some n) = sym (ap (λ a. opens config log (entry_at moment a)) is.1) ∙ opened in none-some n e,
-)
+-- a turn names no connection and opens none, does not halt the switch, and tells of no dial
+pub record IsTurn (done : Act) : Type 0 where
+  pub unnamed : actor_of done ≡ None
+  pub running : done ≢ Halt
+  pub undialed : (slot : ℕ) (linked : Bool) → done ≢ Dialed slot linked
+  pub closed : (s : Switch) → comes_by done s ≡ false
+
+pub turn_is : (who : Actor) (done : Act) → IsTurnOf who done → IsTurn done
+turn_is (Slot slot) done is =
+    subst IsTurn (sym is) (record {
+      unnamed = refl;
+      running = λ same. absurd (cc same);
+      undialed = λ other linked same. absurd (cc same);
+      closed = λ s. refl;
+    })
+turn_is Jobs done is =
+    subst IsTurn (sym is.1) (record {
+      unnamed = refl;
+      running = λ same. absurd (cc same);
+      undialed = λ slot linked same. absurd (cc same);
+      closed = λ s. refl;
+    })
+
+turn_opens_none : (config : Configuration) (log : List Entry) (moment : ℕ) (done : Act) (n : ℕ) → IsTurn done →
+    opens config log (entry_at moment done) ≢ Some n
+turn_opens_none config log moment done n turn opened =
+    let e : ◌≡◌ {A = Option ℕ} None (Some n) =
+    sym (ap (λ (b : Bool). opened_where config b log) (turn.closed (state_after config log))) ∙ opened in none-some n e
+
+turn_enters : (may : ℕ → Type 0) (halts : Type 0) (own : Option ℕ) (moment : ℕ) (done : Act) → may moment → IsTurn done →
+    Enters may halts own (entry_at moment done)
+turn_enters may halts own moment done told turn =
+    ((told, λ halted. absurd (turn.running halted)), λ slot linked dialed. absurd (turn.undialed slot linked dialed))
 
 -- a lane that worked keeps what it kept
-module _ {L : Type 0} (input : L → Input) (output : L → Output) (may : ℕ → Type 0) (halts : Type 0) (config : Configuration)
+module _ {L : Type 0} (input : L → Input) (output : L → Output) (may : ℕ → Type 0) (halts : Type 0) (own : Option ℕ) (config : Configuration)
     (start : Option Configuration) (seen seen' : List Entry) (mine mine' : List ℕ) (met met' : List (List ℕ))
     (conns : List (Conn L)) (is : start ≡ Some config) (met_is : met' ≡ met)
     (below : (k : ℕ) (l : List ℕ) → get_elem? (mine ∷ met) k ≡ some l → (p : ℕ) → 0 < times p l → p < length seen)
     (owned : Owned opens names start (mine' ∷ met') seen')
-    (keeps : Keeps input output (MayEnter may halts) config seen (mine ∷ met) conns) where
-  keeps_stays : Stays config seen mine seen' mine' → Keeps input output (MayEnter may halts) config seen' (mine' ∷ met') conns
+    (keeps : Keeps input output (Enters may halts own) config seen (mine ∷ met) conns) where
+  keeps_stays : Stays config seen mine seen' mine' → Keeps input output (Enters may halts own) config seen' (mine' ∷ met') conns
   keeps_stays stays =
-      keeps_looked input output (MayEnter may halts) config start seen seen' mine mine' met met' conns is stays.front stays.same met_is below
+      keeps_looked input output (Enters may halts own) config start seen seen' mine mine' met met' conns is stays.front stays.same met_is below
       owned stays.run keeps
 
   pub keeps_worked : (who : Actor) (now : ℕ) (worked : Worked) → may now → Works config seen mine seen' mine' who now worked →
-      Keeps input output (MayEnter may halts) config seen' (mine' ∷ met') conns
+      Keeps input output (Enters may halts own) config seen' (mine' ∷ met') conns
   keeps_worked who now (Did place wakes) told gained =
-      let free = turn_is_open who gained.act now gained.is in
+      let turn = turn_is who gained.act gained.is in
       let entry = entry_at now gained.act in
-      subst (λ (ms : List (List ℕ)). Keeps input output (MayEnter may halts) config seen' (mine' ∷ ms) conns) (sym met_is)
-      (keeps_entered input output (MayEnter may halts) config start seen gained.before seen' mine mine' met conns place entry is gained.front
-      gained.sees gained.at gained.more free.0 (free.2 config) (told, λ halted. absurd (free.1 halted))
-      (subst (λ (log : List Entry). IsJournal config log) (sym gained.sees) (record {
-        within = gained.answers.before.within;
-        run = is_run_more (empty config) gained.before entry gained.answers.before.run gained.answers.defined;
-      })) below (subst (λ (ms : List (List ℕ)). Owned opens names start (mine' ∷ ms) seen') met_is owned) keeps)
+      subst (λ (ms : List (List ℕ)). Keeps input output (Enters may halts own) config seen' (mine' ∷ ms) conns) (sym met_is)
+      (keeps_entered input output (Enters may halts own) config start seen gained.before seen' mine mine' met conns place entry is
+      gained.front gained.sees gained.at gained.more turn.unnamed
+      (λ n. turn_opens_none config gained.before now gained.act n turn) (turn_enters may halts own now gained.act told turn)
+      (run_behind config gained.before seen' entry gained.reply gained.sees gained.answers) below
+      (subst (λ (ms : List (List ℕ)). Owned opens names start (mine' ∷ ms) seen') met_is owned) keeps)
   keeps_worked who now (Idle None) told works = keeps_stays works.stays
   keeps_worked who now (Idle (Some next)) told works = keeps_stays works.stays
+  keeps_worked who now (Talk target) told works = keeps_stays works.stands.stays
   keeps_worked who now Stopped told works = keeps_stays works.stays
   keeps_worked who now (Refused why) told works = keeps_stays works.stays

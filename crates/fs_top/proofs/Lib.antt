@@ -6,8 +6,12 @@ mod DoorLemmas
 mod GatherLemmas
 mod LaneLemmas
 mod PartLaws
+mod PlaceLemmas
+mod PlacedLemmas
 mod RunLaws
 mod SendLemmas
 mod ServeLaws
 mod SettleLaws
 mod StandLemmas
+mod TalkLemmas
+mod VainLemmas

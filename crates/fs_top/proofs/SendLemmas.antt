@@ -2,12 +2,14 @@
 use denote.RattleType.{RattleType}
 use mathlib.Core.List.{[], ◌∷◌}
 use mir.Syntax.{Sym}
-use denote.Ref.{NamedLft, ShrRef}
+use denote.Ref.{NamedLft, ShrRef, MutRef}
 use denote.Slice.{MutSlice}
 use denote.Struct.Tuple.{TupleAt, type_at}
 use denote.Struct.Field.{row_field}
-use denote.Param.Send.{IsSend, IsSync, shr_send, shr_sync, mut_slice_send, sendable}
-use denote.Param.SendFields.{declared_send, declared_sync, as_row_send, as_row_sync}
+use denote.Param.Send.{IsSend, IsSync, shr_send, shr_sync, mut_send, mut_slice_send, sendable}
+use denote.Param.SendFields.{declared_send, declared_sync, variants_send, as_row_send, as_row_sync}
+use denote.Builtin.{u32}
+use Rattle.std.specs.contracts.alloc.Global as Global
 use Rattle.std.proofs.Crossing.{crosses, Arc-send, Vec-send}
 use Rattle.fs_ports.specs.declared.port.Port as port
 use Rattle.fs_book.proofs.pass.Pass.TheSendSync as passes
@@ -21,6 +23,8 @@ use Rattle.fs_machine.specs.contracts.machine.Machine as Machine
 use Rattle.fs_machine.specs.contracts.refusal.Refusal as Refusal
 use Rattle.fs_machine.specs.contracts.turned.MachineTurned.TheImpl.{ghosts}
 use Rattle.fs_top.specs.contracts.lanes.Lane as Lane
+use Rattle.fs_top.specs.contracts.lanes.Staff as Staff
+use Rattle.fs_top.specs.contracts.slots.SlotLane as SlotLane
 use Rattle.fs_top.specs.contracts.conns.Conn as Conn
 use Rattle.fs_top.specs.contracts.came.Came as Came
 use Rattle.fs_top.proofs.came.Came.TheSendSync as came
@@ -32,11 +36,17 @@ pass_send = search (machine_send, passes.the_send, crosses, sendable) depth 20
 pub book_sync : IsSync (Book.the_row Machine.the_row Config.the_row Entry.the_row Entry.the_row Answer.the_row Refusal.the_row ghosts)
 book_sync = search (machine_send, books.the_sync, crosses, sendable) depth 20
 
+pub global_sync : IsSync Global.the_row
+global_sync = search (crosses, sendable) depth 20
+
+pub number_sync : IsSync u32
+number_sync = search sendable depth 20
+
 pub conn_send : (T : RattleType) → IsSend T → IsSend (Conn.the_row T)
 conn_send T s = declared_send (Conn.the_type T) (search sendable depth 20, (as_row_send (row_field T) s, (search sendable depth 20, tt)))
 
-pub lane_send : (T : RattleType) (g : port.Ghosts T.Denot) → IsSend T → IsSend (Lane.the_row T g)
-lane_send T g s = declared_send (Lane.the_type T g) (
+pub staff_send : (T : RattleType) (g : port.Ghosts T.Denot) → IsSend T → IsSend (Staff.the_row T g)
+staff_send T g s = declared_send (Staff.the_type T g) (
   search (crosses, sendable) depth 20,
   (
     search sendable depth 20,
@@ -46,6 +56,18 @@ lane_send T g s = declared_send (Lane.the_type T g) (
     ),
   ),
 )
+
+pub slot_send : (T O : RattleType) → IsSend T → IsSend O → IsSend (SlotLane.the_row T O)
+slot_send T O s o = declared_send (SlotLane.the_type T O) (
+  search (crosses, sendable) depth 20,
+  (
+    search sendable depth 20,
+    (pass_send, (as_row_send (row_field O) o, (Vec-send (Conn.the_row T) (conn_send T s), tt))),
+  ),
+)
+
+pub lane_send : (T O : RattleType) (g : port.Ghosts T.Denot) → IsSend T → IsSend O → IsSend (Lane.the_row T O g)
+lane_send T O g s o = variants_send (Lane.enum T O g) ((slot_send T O s o, tt), ((staff_send T g s, tt), tt))
 
 -- what a closure captures: a `&` to each of three
 pub captures_sync : (ν : Sym) (A B C : RattleType) (ℓ ℓ' ℓ'' : NamedLft) → IsSync A → IsSync B → IsSync C →
@@ -69,6 +91,34 @@ slice_captures_send ν A B C D ℓ ℓ' ℓ'' ℓ''' a b c d =
         (
           as_row_send (row_field (ShrRef ℓ''.mir ℓ''.lft C)) (shr_send ℓ''.mir ℓ''.lft C c),
           (as_row_send (row_field (MutSlice ℓ'''.mir ℓ'''.lft D)) (mut_slice_send ℓ'''.mir ℓ'''.lft D d), tt),
+        ),
+      ),
+    )
+
+-- what a closure captures: a `&` to each of three, a `&mut`, and a `&`, a `&mut` and a `&` more
+pub talk_captures_send : (ν : Sym) (A B C D E F G : RattleType) (ℓ ℓ' ℓ'' ℓ''' κ κ' κ'' : NamedLft) → IsSync A → IsSync B → IsSync C →
+    IsSend D → IsSync E → IsSend F → IsSync G →
+    IsSend (TupleAt ν (ShrRef ℓ.mir ℓ.lft A ∷ ShrRef ℓ'.mir ℓ'.lft B ∷ ShrRef ℓ''.mir ℓ''.lft C ∷ MutRef ℓ'''.mir ℓ'''.lft D
+    ∷ ShrRef κ.mir κ.lft E ∷ MutRef κ'.mir κ'.lft F ∷ ShrRef κ''.mir κ''.lft G ∷ []))
+talk_captures_send ν A B C D E F G ℓ ℓ' ℓ'' ℓ''' κ κ' κ'' a b c d e f g =
+    declared_send
+    (type_at ν (ShrRef ℓ.mir ℓ.lft A ∷ ShrRef ℓ'.mir ℓ'.lft B ∷ ShrRef ℓ''.mir ℓ''.lft C ∷ MutRef ℓ'''.mir ℓ'''.lft D
+    ∷ ShrRef κ.mir κ.lft E ∷ MutRef κ'.mir κ'.lft F ∷ ShrRef κ''.mir κ''.lft G ∷ [])) (
+      as_row_send (row_field (ShrRef ℓ.mir ℓ.lft A)) (shr_send ℓ.mir ℓ.lft A a),
+      (
+        as_row_send (row_field (ShrRef ℓ'.mir ℓ'.lft B)) (shr_send ℓ'.mir ℓ'.lft B b),
+        (
+          as_row_send (row_field (ShrRef ℓ''.mir ℓ''.lft C)) (shr_send ℓ''.mir ℓ''.lft C c),
+          (
+            as_row_send (row_field (MutRef ℓ'''.mir ℓ'''.lft D)) (mut_send ℓ'''.mir ℓ'''.lft D d),
+            (
+              as_row_send (row_field (ShrRef κ.mir κ.lft E)) (shr_send κ.mir κ.lft E e),
+              (
+                as_row_send (row_field (MutRef κ'.mir κ'.lft F)) (mut_send κ'.mir κ'.lft F f),
+                (as_row_send (row_field (ShrRef κ''.mir κ''.lft G)) (shr_send κ''.mir κ''.lft G g), tt),
+              ),
+            ),
+          ),
         ),
       ),
     )

@@ -1,26 +1,73 @@
 -- A lane stands as well over a clock that may tell more.
-use Rattle.std.proofs.Common.{ℕ, ◌∷◌}
+use Rattle.std.proofs.Common.{◌≡◌, ℕ, List, [], ◌∷◌, Option, None, Some, sym, ap, subst, ◌∙◌}
+use Rattle.std.specs.List.{AllByRecursion}
 use Rattle.fs_ports.specs.Ports.{Input, Output}
 use Rattle.fs_book.specs.declared.book.Book.{Book}
 use Rattle.fs_book.specs.Passes.{seen, mine, met, opening_state}
+use Rattle.fs_conn.specs.Talks.{Point, MadeAt, Talks}
+use Rattle.fs_conn.specs.declared.end.End.{End}
 use Rattle.fs_doc.specs.Reading.{Configuration}
 use Rattle.fs_machine.specs.declared.entry.Entry.{Entry}
 use Rattle.fs_machine.specs.declared.answer.Answer.{Answer}
 use Rattle.fs_machine.specs.declared.refusal.Refusal.{Refusal}
 use Rattle.fs_machine.specs.Runs.{View}
 use Rattle.fs_machine.specs.Turned.{configured}
-use Rattle.fs_top.specs.declared.lanes.Lane.{Lane}
-use Rattle.fs_top.specs.Lanes.{MayEnter}
-use Rattle.fs_top.specs.Standing.{LaneStands}
+use Rattle.fs_top.specs.declared.lanes.Staff.{Staff}
+use Rattle.fs_top.specs.declared.slots.SlotLane.{SlotLane}
+use Rattle.fs_top.specs.Dials.{HasRisen}
+use Rattle.fs_top.specs.Lanes.{Enters}
+use Rattle.fs_top.specs.Standing.{StaffStands, SlotHolds, DialsFailed, vain_of}
 use Rattle.fs_top.proofs.LaneLemmas.{keeps_may}
 
-pub lane_told : {L : Type 0} (input : L → Input) (output : L → Output) (may may' : ℕ → Type 0)
-    (book : Book View Configuration Entry Entry Answer Refusal) (lane : Lane L) → ((moment : ℕ) → may moment → may' moment)
-    → LaneStands input output may book lane → LaneStands input output may' book lane
-lane_told input output may may' book lane more stands = record {
+entry_told : (may may' : ℕ → Type 0) (own : Option ℕ) → ((moment : ℕ) → may moment → may' moment) → (entry : Entry) →
+    Enters may ⊥ own entry → Enters may' ⊥ own entry
+entry_told may may' own more entry entered = ((more entry.moment entered.0.0, entered.0.1), entered.1)
+
+pub staff_told : {L : Type 0} (input : L → Input) (output : L → Output) (may may' : ℕ → Type 0)
+    (book : Book View Configuration Entry Entry Answer Refusal) (staff : Staff L) → ((moment : ℕ) → may moment → may' moment)
+    → StaffStands input output may book staff → StaffStands input output may' book staff
+staff_told input output may may' book staff more stands = record {
   book_is = stands.book_is;
   parts_is = stands.parts_is;
   keeps =
-      keeps_may input output (MayEnter may ⊥) (MayEnter may' ⊥) (configured (opening_state book)) (seen lane.pass)
-      (mine lane.pass ∷ met lane.pass) lane.conns.items (λ entry allowed. (more entry.moment allowed.0, allowed.1)) stands.keeps;
+      keeps_may input output (Enters may ⊥ None) (Enters may' ⊥ None) (configured (opening_state book)) (seen staff.pass)
+      (mine staff.pass ∷ met staff.pass) staff.conns.items (entry_told may may' None more) stands.keeps;
+}
+
+pub slot_told : {L O : Type 0} (input : L → Input) (output : L → Output) (may may' : ℕ → Type 0)
+    (book : Book View Configuration Entry Entry Answer Refusal) (slot count : ℕ) (lane : SlotLane L O)
+    → ((moment : ℕ) → may moment → may' moment) → SlotHolds input output may book slot count lane
+    → SlotHolds input output may' book slot count lane
+slot_told input output may may' book slot count lane more holds = (
+  holds.0,
+  holds.1,
+  holds.2,
+  keeps_may input output (Enters may ⊥ (Some slot)) (Enters may' ⊥ (Some slot)) (configured (opening_state book)) (seen lane.pass)
+      (mine lane.pass ∷ met lane.pass) lane.conns.items (entry_told may may' (Some slot) more) holds.3,
+)
+
+-- what failed for a lane has failed for it where it goes on without a dial
+pub failed_as : {L O : Type 0} (faults : O → ℕ) (from : ℕ) (old new : SlotLane L O) → new.slot ≡ old.slot → new.dialer ≡ old.dialer
+    → ((slot : ℕ) → vain_of slot new ≡ vain_of slot old) → DialsFailed faults from old → DialsFailed faults from new
+failed_as faults from old new slot_is dialer_is vain_is failed =
+    subst (λ (n : ℕ). HasRisen n from (faults new.dialer)) (sym (vain_is new.slot ∙ ap (λ (slot : ℕ). vain_of slot old) slot_is))
+    (subst (λ (n : ℕ). HasRisen (vain_of old.slot old) from n) (sym (ap faults dialer_is)) failed)
+
+-- so does a conversation
+made_told : (may may' : ℕ → Type 0) (conn : ℕ) (log : List Entry) (places : List ℕ) → ((moment : ℕ) → may moment → may' moment) →
+    AllByRecursion (MadeAt may conn log) places → AllByRecursion (MadeAt may' conn log) places
+made_told may may' conn log [] more made = tt
+made_told may may' conn log (p ∷ places) more made =
+    ((made.0.0, made.0.1, made.0.2, more made.0.0.moment made.0.3), made_told may may' conn log places more made.1)
+
+pub talks_told : (may may' : ℕ → Type 0) (config : Configuration) (conn : ℕ) (from now : Point) (end : End) →
+    ((moment : ℕ) → may moment → may' moment) → Talks may config conn from now end → Talks may' config conn from now end
+talks_told may may' config conn from now end more talks = record {
+  later = talks.later;
+  gains = record {
+    places = talks.gains.places;
+    more = talks.gains.more;
+    each = made_told may may' conn now.log talks.gains.places more talks.gains.each;
+  };
+  told = talks.told;
 }

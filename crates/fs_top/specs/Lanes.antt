@@ -1,5 +1,5 @@
 -- What is kept of the connections that were served, over the journal as far as it was seen.
-use Rattle.std.specs.Prelude.{◌≡◌, ℕ, ◌<◌, ◌≤◌, ◌||◌, ◌&&◌, ◌==◌, Bool, List, [], ◌∷◌, ◌++◌, Some, is_some, slice_get, map}
+use Rattle.std.specs.Prelude.{◌≡◌, ℕ, ◌<◌, ◌≤◌, ◌||◌, ◌&&◌, ◌==◌, Bool, List, [], ◌∷◌, ◌++◌, Option, None, Some, is_some, slice_get, map}
 use Rattle.std.specs.List.{All, Contains}
 use mathlib.Core.Option.{some}
 use lib.ListN.{get_elem?}
@@ -9,7 +9,7 @@ use Rattle.fs_book.specs.Counts.{times, total}
 use Rattle.fs_book.specs.Opened.{OpensAt}
 use Rattle.fs_state.specs.Switch.{Switch, is_full}
 use Rattle.fs_machine.specs.declared.entry.Entry.{Entry}
-use Rattle.fs_machine.specs.declared.entry.Act.TheVariants.{Halt}
+use Rattle.fs_machine.specs.declared.entry.Act.TheVariants.{Dialed, Halt}
 use Rattle.fs_machine.specs.Laws.{state_after}
 use Rattle.fs_machine.specs.Questions.{live}
 use Rattle.fs_machine.specs.Turned.{IsJournal, opens}
@@ -18,6 +18,8 @@ use Rattle.fs_top.specs.declared.conns.Conn.{Conn}
 use Rattle.fs_top.specs.declared.ending.Ending.{Ending}
 use Rattle.fs_top.specs.declared.ending.Settled.{Settled}
 use Rattle.fs_conn.specs.Owning.{OwnsConn}
+use Rattle.fs_session.specs.declared.actor.Actor.{Actor}
+use Rattle.fs_session.specs.declared.actor.Actor.TheVariants.{Slot, Jobs}
 use Rattle.fs_conn.specs.Talks.{Told}
 
 module _ (config : Configuration) (seen : List Entry) (lists : List (List ℕ)) where
@@ -56,6 +58,11 @@ module _ (config : Configuration) (seen : List Entry) (lists : List (List ℕ)) 
 abbrev pub MayEnter : (ℕ → Type 0) → Type 0 → Entry → Type 0
 MayEnter may halts entry = may entry.moment × (entry.act ≡ Halt → halts)
 
+-- The entry may be entered where the pass belongs to whoever works a slot, or to somebody else, who enters nothing of any dial: only of that
+-- slot it tells what came of one.
+abbrev pub Enters : (ℕ → Type 0) → Type 0 → Option ℕ → Entry → Type 0
+Enters may halts own entry = MayEnter may halts entry × ((slot : ℕ) (linked : Bool) → entry.act ≡ Dialed slot linked → own ≡ Some slot)
+
 abbrev pub number_of : {L : Type 0} → Conn L → ℕ
 number_of conn = conn.number
 
@@ -68,6 +75,11 @@ pub record Keeps {L : Type 0} (input : L → Input) (output : L → Output) (may
   pub all : AreAll config seen lists (map number_of conns)
   pub once : AreOnce config seen lists (map number_of conns)
   pub allowed : AreAllowed config seen lists may
+
+-- the slot of which an actor may tell what came of a dial
+abbrev pub slot_of : Actor → Option ℕ
+slot_of (Slot slot) = Some slot
+slot_of Jobs = None
 
 -- the switch has come to its end, or its journal is full
 abbrev pub is_over : Switch → Bool

@@ -1,3 +1,4 @@
+pub mod Dials
 pub mod Documents
 pub mod Counted
 pub mod Told

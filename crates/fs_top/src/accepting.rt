@@ -1,11 +1,11 @@
 //! Links are taken in at the door.
 
-ghost use Rattle.std.specs.Prelude.{◌≡◌, [], ◌∷◌};
+ghost use Rattle.std.specs.Prelude.{◌≡◌, [], ◌∷◌, None};
 ghost use Rattle.std.specs.Prelude.{length};
 ghost use Rattle.fs_ports.specs.Ports.{IsNewLink};
 ghost use Rattle.fs_book.specs.Passes.{seen, mine, met, parts, opening_state, IsPassOf};
 ghost use Rattle.fs_machine.specs.Turned.{configured};
-ghost use Rattle.fs_top.specs.Lanes.{Keeps, MayEnter};
+ghost use Rattle.fs_top.specs.Lanes.{Keeps, Enters};
 ghost use Rattle.fs_top.specs.Doors.{Rose, Halts};
 
 use crate::came::Came;
@@ -26,12 +26,12 @@ pub(crate) fn accept_all<R: Wait, D: Door, C: Clock>(
     pass: &mut Pass<Machine>,
 )
     requires book { IsPassOf configured book.now pass.old }
-    requires keeps { Keeps D.Link.input D.Link.output (MayEnter (C.tells clock.now) ⊥)
+    requires keeps { Keeps D.Link.input D.Link.output (Enters (C.tells clock.now) ⊥ None)
         (configured (opening_state book.now)) (seen pass.old) (mine pass.old ∷ met pass.old) [] }
     ensures book { IsPassOf configured book.now pass.new }
     ensures parts { parts pass.new ≡ parts pass.old }
     ensures keeps { Keeps D.Link.input D.Link.output
-        (MayEnter (C.tells clock.now) (Rose (D.door_faults door.old) (D.door_faults door.new)))
+        (Enters (C.tells clock.now) (Rose (D.door_faults door.old) (D.door_faults door.new)) None)
         (configured (opening_state book.now)) (seen pass.new) (mine pass.new ∷ met pass.new) [] }
 {
     'links: for _ in rt.forever() {

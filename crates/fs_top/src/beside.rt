@@ -1,59 +1,69 @@
 //! All threads of a server.
 
-ghost use Rattle.std.specs.Prelude.{◌≡◌, [], ◌∷◌, length};
+ghost use Rattle.std.specs.Prelude.{◌≡◌, ℕ, [], ◌∷◌, length, None};
 ghost use Rattle.std.specs.List.{All};
 ghost use Rattle.fs_book.specs.Passes.{seen, mine, met, parts, opening_state, IsPassOf};
 ghost use Rattle.fs_machine.specs.Turned.{configured};
 ghost use Rattle.fs_top.specs.Doors.{Rose};
-ghost use Rattle.fs_top.specs.Lanes.{Keeps, MayEnter};
-ghost use Rattle.fs_top.specs.Standing.{LaneStands};
+ghost use Rattle.fs_top.specs.Lanes.{Keeps, Enters};
+ghost use Rattle.fs_top.specs.Standing.{Stands, ArePlaced, HaveFailed};
 
 use crate::accepting::accept_all;
 use crate::came::Came;
 use crate::lanes::{Lane, run_lanes};
 use fs_book::{Book, Pass};
 use fs_machine::Machine;
-use fs_ports::{Clock, Door};
+use fs_ports::{Clock, Dialer, Door};
 use std::sync::Wait;
 use std::thread::{Threads, join_mut};
 
 /// Runs all lanes, and takes links in beside them, until all have come to their end.
-pub(crate) fn run_beside<R: Threads + Wait + Sync, D: Door + Send, C: Clock>(
+pub(crate) fn run_beside<
+    R: Threads + Wait + Sync,
+    D: Door + Send,
+    O: Dialer<Link = D::Link>,
+    C: Clock,
+>(
     rt: &R,
     book: &Book<Machine>,
     came: &Came<D::Link>,
     clock: &C,
     door: &mut D,
     pass: &mut Pass<Machine>,
-    lanes: &mut [Lane<D::Link>],
+    lanes: &mut [Lane<D::Link, O>],
 )
     requires book { IsPassOf configured book.now pass.old }
-    requires keeps { Keeps D.Link.input D.Link.output (MayEnter (C.tells clock.now) ⊥)
+    requires keeps { Keeps D.Link.input D.Link.output (Enters (C.tells clock.now) ⊥ None)
         (configured (opening_state book.now)) (seen pass.old) (mine pass.old ∷ met pass.old) [] }
-    requires lanes { All (LaneStands D.Link.input D.Link.output (C.tells clock.now) book.now) lanes.old }
+    requires lanes { All (Stands D.Link.input D.Link.output (C.tells clock.now) book.now) lanes.old }
     ensures book { IsPassOf configured book.now pass.new }
     ensures parts { parts pass.new ≡ parts pass.old }
     ensures keeps { Keeps D.Link.input D.Link.output
-        (MayEnter (C.tells clock.now) (Rose (D.door_faults door.old) (D.door_faults door.new)))
+        (Enters (C.tells clock.now) (Rose (D.door_faults door.old) (D.door_faults door.new)) None)
         (configured (opening_state book.now)) (seen pass.new) (mine pass.new ∷ met pass.new) [] }
     ensures count { length lanes.new ≡ length lanes.old }
-    ensures lanes { All (LaneStands D.Link.input D.Link.output (C.tells clock.now) book.now) lanes.new }
+    ensures lanes { All (Stands D.Link.input D.Link.output (C.tells clock.now) book.now) lanes.new }
+    ensures placed { (slots : ℕ) → ArePlaced slots lanes.old → ArePlaced slots lanes.new }
+    ensures failed { (from : ℕ) → HaveFailed O.dial_faults from lanes.old → HaveFailed O.dial_faults from lanes.new }
 {
     join_mut(
         rt,
         &mut || -> ()
-            requires { All (LaneStands D.Link.input D.Link.output (C.tells clock.now) book.now) lanes.now }
-            ensures { All (LaneStands D.Link.input D.Link.output (C.tells clock.entry.now) book.entry.now)
-                lanes.exit.now × (length lanes.exit.now ≡ length lanes.entry.now) }
+            requires { All (Stands D.Link.input D.Link.output (C.tells clock.now) book.now) lanes.now }
+            ensures { All (Stands D.Link.input D.Link.output (C.tells clock.entry.now) book.entry.now) lanes.exit.now
+                × (length lanes.exit.now ≡ length lanes.entry.now)
+                × ((slots : ℕ) → ArePlaced slots lanes.entry.now → ArePlaced slots lanes.exit.now)
+                × ((from : ℕ) → HaveFailed O.dial_faults from lanes.entry.now
+                → HaveFailed O.dial_faults from lanes.exit.now) }
         { run_lanes(rt, book, clock, lanes) },
         &mut || -> ()
             requires { IsPassOf configured book.now pass.now
-                × Keeps D.Link.input D.Link.output (MayEnter (C.tells clock.now) ⊥)
+                × Keeps D.Link.input D.Link.output (Enters (C.tells clock.now) ⊥ None)
                 (configured (opening_state book.now)) (seen pass.now) (mine pass.now ∷ met pass.now) [] }
             ensures { IsPassOf configured book.entry.now pass.exit.now
                 × (parts pass.exit.now ≡ parts pass.entry.now)
                 × Keeps D.Link.input D.Link.output
-                (MayEnter (C.tells clock.entry.now) (Rose (D.door_faults door.entry.now) (D.door_faults door.exit.now)))
+                (Enters (C.tells clock.entry.now) (Rose (D.door_faults door.entry.now) (D.door_faults door.exit.now)) None)
                 (configured (opening_state book.entry.now)) (seen pass.exit.now)
                 (mine pass.exit.now ∷ met pass.exit.now) [] }
         { accept_all(rt, book, came, clock, door, pass) },

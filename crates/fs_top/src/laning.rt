@@ -1,20 +1,22 @@
 //! A lane serves one link after another, and keeps the connections.
 
-ghost use Rattle.std.specs.Prelude.{◌≡◌, ◌<◌, [], ◌∷◌, ◌++◌};
+ghost use Rattle.std.specs.Prelude.{◌≡◌, ◌<◌, [], ◌∷◌, ◌++◌, None};
 ghost use Rattle.std.specs.Vec.{vec_len, vec_capacity};
 ghost use Rattle.fs_ports.specs.Ports.{IsNewLink};
 ghost use Rattle.fs_book.specs.Passes.{seen, mine, met, parts, opening_state, IsPassOf};
-ghost use Rattle.fs_machine.specs.Turned.{configured};
-ghost use Rattle.fs_top.specs.Lanes.{Keeps, MayEnter};
+ghost use Rattle.fs_book.specs.Opened.{NoneNames};
+ghost use Rattle.fs_machine.specs.Turned.{configured, IsJournal, names};
+ghost use Rattle.fs_conn.specs.Owning.{OwnsConn};
+ghost use Rattle.fs_conn.specs.Talks.{point, Talks};
+ghost use Rattle.fs_top.specs.Lanes.{Keeps, Enters};
 
 use crate::came::Came;
 use crate::conns::Conn;
 use crate::ending::is_ending;
 use fs_book::{Book, Pass};
-use fs_conn::{converse, welcome};
+use fs_conn::{End, converse, welcome};
 use fs_machine::{Machine, Refusal};
 use fs_ports::{Clock, Link, Sleeper};
-use fs_session::{Actor, Worked, work_once};
 use std::alloc::Global;
 use std::sync::Wait;
 
@@ -31,25 +33,50 @@ fn serve_one<R: Wait, C: Clock, L: Link>(
     requires book { IsPassOf configured book.now pass.old }
     requires new { IsNewLink (L.input link) (L.output link) }
     requires room { vec_len conns.old < vec_capacity conns.old }
-    requires keeps { Keeps L.input L.output (MayEnter (C.tells clock.now) ⊥) (configured (opening_state book.now))
+    requires keeps { Keeps L.input L.output (Enters (C.tells clock.now) ⊥ None) (configured (opening_state book.now))
         (seen pass.old) (mine pass.old ∷ met pass.old) conns.old.items }
     ensures book { IsPassOf configured book.now pass.new }
     ensures parts { parts pass.new ≡ parts pass.old }
-    ensures keeps { Keeps L.input L.output (MayEnter (C.tells clock.now) ⊥) (configured (opening_state book.now))
+    ensures keeps { Keeps L.input L.output (Enters (C.tells clock.now) ⊥ None) (configured (opening_state book.now))
         (seen pass.new) (mine pass.new ∷ met pass.new) conns.new.items }
 {
     let mut link = link;
     let number = welcome(rt, book, pass, clock)?;
-    clock.serve(number);
-    let end = converse(rt, alloc, book, pass, number, &mut link, clock);
-    clock.serve_nobody();
-    link.hang_up();
+    let end = serve_conn(rt, alloc, book, pass, number, &mut link, clock);
     keep(conns, Conn { number, link, end });
     Ok(())
 }
 
-// Puts a connection behind the others, where there is room for it.
-fn keep<L: Link>(conns: &mut Vec<Conn<L>>, conn: Conn<L>)
+/// Converses on a connection that has come to its end, and hangs up its link.
+pub(crate) fn serve_conn<R: Wait, C: Clock, L: Link>(
+    rt: &R,
+    alloc: Global,
+    book: &Book<Machine>,
+    pass: &mut Pass<Machine>,
+    conn: u32,
+    link: &mut L,
+    clock: &C,
+) -> End
+    requires book { IsPassOf configured book.now pass.old }
+    requires owns { OwnsConn (configured (opening_state book.now)) conn (seen pass.old) (mine pass.old) }
+    requires run { IsJournal (configured (opening_state book.now)) (seen pass.old) }
+    requires fresh { NoneNames names conn (seen pass.old) }
+    ensures book { IsPassOf configured book.now pass.new }
+    ensures owns { OwnsConn (configured (opening_state book.now)) conn (seen pass.new) (mine pass.new) }
+    ensures kept { (met pass.new ≡ met pass.old) × (parts pass.new ≡ parts pass.old) }
+    ensures talks { Talks (C.tells clock.now) (configured (opening_state book.now)) conn
+        (point (seen pass.old) (mine pass.old) (L.input link.old) (L.output link.old))
+        (point (seen pass.new) (mine pass.new) (L.input link.new) (L.output link.new)) result }
+{
+    clock.serve(conn);
+    let end = converse(rt, alloc, book, pass, conn, link, clock);
+    clock.serve_nobody();
+    link.hang_up();
+    end
+}
+
+/// Puts a connection behind the others, where there is room for it.
+pub(crate) fn keep<L: Link>(conns: &mut Vec<Conn<L>>, conn: Conn<L>)
     requires { vec_len conns.old < vec_capacity conns.old }
     ensures { conns.new.items ≡ conns.old.items ++ conn ∷ [] }
 {
@@ -68,11 +95,11 @@ pub(crate) fn serve_links<R: Wait, C: Clock, L: Link>(
     conns: &mut Vec<Conn<L>>,
 )
     requires book { IsPassOf configured book.now pass.old }
-    requires keeps { Keeps L.input L.output (MayEnter (C.tells clock.now) ⊥) (configured (opening_state book.now))
+    requires keeps { Keeps L.input L.output (Enters (C.tells clock.now) ⊥ None) (configured (opening_state book.now))
         (seen pass.old) (mine pass.old ∷ met pass.old) conns.old.items }
     ensures book { IsPassOf configured book.now pass.new }
     ensures parts { parts pass.new ≡ parts pass.old }
-    ensures keeps { Keeps L.input L.output (MayEnter (C.tells clock.now) ⊥) (configured (opening_state book.now))
+    ensures keeps { Keeps L.input L.output (Enters (C.tells clock.now) ⊥ None) (configured (opening_state book.now))
         (seen pass.new) (mine pass.new ∷ met pass.new) conns.new.items }
 {
     'links: for _ in rt.forever() {
@@ -98,11 +125,11 @@ fn serve_next<R: Wait, C: Clock, L: Link>(
     conns: &mut Vec<Conn<L>>,
 ) -> bool
     requires book { IsPassOf configured book.now pass.old }
-    requires keeps { Keeps L.input L.output (MayEnter (C.tells clock.now) ⊥) (configured (opening_state book.now))
+    requires keeps { Keeps L.input L.output (Enters (C.tells clock.now) ⊥ None) (configured (opening_state book.now))
         (seen pass.old) (mine pass.old ∷ met pass.old) conns.old.items }
     ensures book { IsPassOf configured book.now pass.new }
     ensures parts { parts pass.new ≡ parts pass.old }
-    ensures keeps { Keeps L.input L.output (MayEnter (C.tells clock.now) ⊥) (configured (opening_state book.now))
+    ensures keeps { Keeps L.input L.output (Enters (C.tells clock.now) ⊥ None) (configured (opening_state book.now))
         (seen pass.new) (mine pass.new ∷ met pass.new) conns.new.items }
 {
     if conns.reserve(1).is_err() {
@@ -113,32 +140,4 @@ fn serve_next<R: Wait, C: Clock, L: Link>(
     };
     link.belong_to(sleeper);
     serve_one(rt, alloc, book, pass, clock, conns, link).is_ok()
-}
-
-/// Works a slot, or the jobs, again and again until the switch has come to its end and nothing of it is left, or its
-/// journal is full.
-pub(crate) fn run_session<R: Wait, C: Clock, L: Link>(
-    rt: &R,
-    book: &Book<Machine>,
-    pass: &mut Pass<Machine>,
-    actor: Actor,
-    clock: &C,
-    conns: &Vec<Conn<L>>,
-)
-    requires book { IsPassOf configured book.now pass.old }
-    requires keeps { Keeps L.input L.output (MayEnter (C.tells clock.now) ⊥) (configured (opening_state book.now))
-        (seen pass.old) (mine pass.old ∷ met pass.old) conns.now.items }
-    ensures book { IsPassOf configured book.now pass.new }
-    ensures parts { parts pass.new ≡ parts pass.old }
-    ensures keeps { Keeps L.input L.output (MayEnter (C.tells clock.now) ⊥) (configured (opening_state book.now))
-        (seen pass.new) (mine pass.new ∷ met pass.new) conns.now.items }
-{
-    'turns: for _ in rt.forever() {
-        match work_once(rt, book, pass, actor, clock.now()) {
-            Worked::Did(_, wakes) => clock.wake(&wakes),
-            Worked::Idle { next: Some(moment) } => clock.nap_until(moment),
-            Worked::Idle { next: None } | Worked::Refused(Refusal::Memory) => clock.nap(),
-            Worked::Stopped | Worked::Refused(_) => return,
-        }
-    }
 }

@@ -9,6 +9,7 @@ mod came;
 mod conns;
 mod counted;
 mod course;
+mod dialing;
 mod documents;
 mod ending;
 mod gathering;
@@ -18,6 +19,8 @@ mod lines;
 mod outcome;
 mod program;
 mod serving;
+mod slots;
+mod turning;
 
 pub use conns::Conn;
 pub use program::{Status, run};

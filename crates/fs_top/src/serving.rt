@@ -1,12 +1,13 @@
 //! A server: the file, its document, the door, and the switch with all its threads.
 
-ghost use Rattle.std.specs.Prelude.{◌≡◌, ◌⊎◌, ◌^◌, [], ◌∷◌, true, false, IfOk, IfErr, OnOk, MatchResult};
+ghost use Rattle.std.specs.Prelude.{◌≡◌, ◌⊎◌, ◌^◌, [], ◌∷◌, map, true, false, IfOk, OnOk};
 ghost use Rattle.std.specs.List.{list_any};
 ghost use Rattle.fs_doc.specs.Reading.{Configuration};
 ghost use Rattle.fs_state.specs.Switch.{is_full};
 ghost use Rattle.fs_machine.specs.Laws.{state_after};
 ghost use Rattle.fs_top.specs.declared.course.Course.TheVariants as courses;
 ghost use Rattle.fs_top.specs.declared.outcome.Outcome.TheVariants as outcomes;
+ghost use Rattle.fs_top.specs.Dials.{vain_dials, vain_in, AreBounded};
 ghost use Rattle.fs_top.specs.Doors.{Rose};
 ghost use Rattle.fs_book.specs.Passes.{seen, mine, met, parts, opening_state, IsFirstPass, IsPassOf};
 ghost use Rattle.fs_conn.specs.declared.end.End.TheVariants as ends;
@@ -22,7 +23,7 @@ use crate::came::Came;
 use crate::conns::Conn;
 use crate::course::Course;
 use crate::ending::settle;
-use crate::gathering::{close, gather, make_lanes};
+use crate::gathering::{Gathered, add_staff, close, gather, make_slots};
 use crate::lanes::kinds_for;
 use crate::outcome::Outcome;
 use crate::program::{Status, not_built, not_read};
@@ -31,7 +32,7 @@ use fs_conn::End;
 use fs_doc::{Config, read_config};
 use fs_machine::{Act, Entry, Journal, Machine, Refusal};
 use fs_plan::Dialplan;
-use fs_ports::{Clock, Door, Files, Link, Listen, Load, Sink};
+use fs_ports::{Clock, Dialer, Door, Files, Link, Listen, Load, Sink};
 use fs_text::{Memory, Txt};
 use std::alloc::Global;
 use std::sync::{Arc, Wait};
@@ -49,42 +50,49 @@ pub fn is_serve(words: &[Txt]) -> bool
 
 /// What a server came to.
 #[derive(Drop)]
-pub struct Served<L: Link> {
+pub struct Served<L: Link, O> {
     /// The status that the program ends with.
     pub status: Status,
     /// The journal that the switch closed with. It is empty where nothing was served, and where memory was wanting.
     pub journal: Journal,
     /// The connections that came, each as it was left. There are none where the journal is empty.
     pub conns: Vec<Conn<L>>,
+    /// The dialers of the slots, in their order, as they were left. There are none where nothing was served, and where
+    /// memory was wanting.
+    pub dialers: Vec<O>,
 }
 
 /// What a server comes to, before its line is printed.
 #[derive(Drop)]
-struct Ran<'a, L: Link> {
+struct Ran<'a, L: Link, O> {
     course: Course<'a>,
     journal: Journal,
     conns: Vec<Conn<L>>,
+    dialers: Vec<O>,
 }
 
-impl<'a, L: Link> Ran<'a, L> {
+impl<'a, L: Link, O: Drop> Ran<'a, L, O> {
     // Nothing was served, and this is why.
-    fn nothing(alloc: Global, course: Course<'a>) -> Ran<'a, L>
+    fn nothing(alloc: Global, course: Course<'a>) -> Ran<'a, L, O>
         ensures course { result.course ≡ course.entry }
         ensures journal { result.journal.entries ≡ [] }
         ensures conns { result.conns.items ≡ [] }
+        ensures dialers { result.dialers.items ≡ [] }
     {
         Ran {
             course,
             journal: Journal::new(alloc),
             conns: Vec::new(alloc),
+            dialers: Vec::new(alloc),
         }
     }
 
     // Memory was wanting.
-    fn without_memory(alloc: Global) -> Ran<'a, L>
+    fn without_memory(alloc: Global) -> Ran<'a, L, O>
         ensures course { result.course ≡ courses.Run (outcomes.Ended ends.Memory) }
         ensures journal { result.journal.entries ≡ [] }
         ensures conns { result.conns.items ≡ [] }
+        ensures dialers { result.dialers.items ≡ [] }
     {
         Ran::nothing(alloc, Course::Run(Outcome::Ended(End::Memory)))
     }
@@ -92,19 +100,28 @@ impl<'a, L: Link> Ran<'a, L> {
 
 /// Serves the file that the words `serve FILE` name: listens where its document says, takes in whoever connects,
 /// converses with as many at once as the document allows, and works all channels and jobs, each in a thread of its own,
-/// until a `fsctl shutdown` ends the switch, its journal is full, or the door fails.
+/// until a `fsctl shutdown` ends the switch, its journal is full, or the door fails. For a channel that waits for a
+/// controller a twin of the dialer dials it, and its connection is served beside the others.
 ///
 /// On `err` it prints one line where the status is not 0. A fault of `err` changes no status. Where no thread can be
 /// made, what should run beside one another runs one after another, and may never end.
-pub fn serve<R: Threads + Wait + Sync, F: Files, D: Door + Send, C: Clock, E: Sink>(
+pub fn serve<
+    R: Threads + Wait + Sync,
+    F: Files,
+    D: Door + Send,
+    O: Dialer<Link = D::Link>,
+    C: Clock,
+    E: Sink,
+>(
     rt: &R,
     alloc: Global,
     words: &[Txt],
     files: &mut F,
     door: &mut D,
+    dialer: &O,
     clock: &C,
     err: &mut E,
-) -> Served<D::Link>
+) -> Served<D::Link, O>
     requires { spec.is_serve words.now ≡ true }
 
     // Either nothing was entered; or the file is read as a configuration, and the journal is a run of it from the empty
@@ -117,6 +134,11 @@ pub fn serve<R: Threads + Wait + Sync, F: Files, D: Door + Send, C: Clock, E: Si
         × Headline D.Link.input D.Link.output
         (MayEnter (C.tells clock.now) (Rose (D.door_faults door.old) (D.door_faults door.new)))
         c result.journal.entries result.conns.items) }
+
+    // Of each slot, from 1 on, at most as many entries tell that a dial was in vain as its dialer counts faults more than
+    // the one from which all were made, unless it counts as many as it can.
+    ensures dialers { AreBounded (λ slot. vain_dials slot result.journal.entries) (O.dial_faults dialer.now)
+        (map O.dial_faults result.dialers.items) }
 
     // Each status has its cause.
     ensures shutdown { result.status.code ≡ 0 → (c : Configuration)
@@ -136,18 +158,20 @@ pub fn serve<R: Threads + Wait + Sync, F: Files, D: Door + Send, C: Clock, E: Si
     ensures said { spec.Says (E.output err.old) (E.output err.new) result.status.code }
 {
     let name = file_of(words);
-    let ran = serve_file(rt, alloc, name, files, door, clock);
+    let ran = serve_file(rt, alloc, name, files, door, dialer, clock);
     let _sent = ran.course.say(err);
     let Ran {
         course,
         journal,
         conns,
+        dialers,
     } = ran;
     let code = course.status();
     Served {
         status: Status { code },
         journal,
         conns,
+        dialers,
     }
 }
 
@@ -163,17 +187,27 @@ fn file_of(words: &[Txt]) -> &Txt
 }
 
 // Serves a file.
-fn serve_file<'a, R: Threads + Wait + Sync, F: Files, D: Door + Send, C: Clock>(
+fn serve_file<
+    'a,
+    R: Threads + Wait + Sync,
+    F: Files,
+    D: Door + Send,
+    O: Dialer<Link = D::Link>,
+    C: Clock,
+>(
     rt: &R,
     alloc: Global,
     name: &'a Txt,
     files: &mut F,
     door: &mut D,
+    dialer: &O,
     clock: &C,
-) -> Ran<'a, D::Link>
-    ensures { spec.Serves D.Link.input D.Link.output (C.tells clock.now) (F.next_load files.old) name.now
+) -> Ran<'a, D::Link, O>
+    ensures serves { spec.Serves D.Link.input D.Link.output (C.tells clock.now) (F.next_load files.old) name.now
         (F.counts files.old) (F.counts files.new) (F.sizes files.old) (F.sizes files.new)
         (D.door_faults door.old) (D.door_faults door.new) result.course result.journal.entries result.conns.items }
+    ensures dialers { AreBounded (λ slot. vain_dials slot result.journal.entries) (O.dial_faults dialer.now)
+        (map O.dial_faults result.dialers.items) }
 {
     let bytes = match files.load(name) {
         Ok(Load::Got(bytes)) => bytes,
@@ -181,25 +215,35 @@ fn serve_file<'a, R: Threads + Wait + Sync, F: Files, D: Door + Send, C: Clock>(
         Ok(Load::Failed) => return Ran::nothing(alloc, Course::Run(Outcome::CannotRead { name })),
         Err(Memory) => return Ran::without_memory(alloc),
     };
-    serve_bytes(rt, alloc, bytes.as_bytes(), files, door, clock)
+    serve_bytes(rt, alloc, bytes.as_bytes(), files, door, dialer, clock)
 }
 
 // Serves the document in these bytes.
-fn serve_bytes<'a, R: Threads + Wait + Sync, F: Files, D: Door + Send, C: Clock>(
+fn serve_bytes<
+    'a,
+    R: Threads + Wait + Sync,
+    F: Files,
+    D: Door + Send,
+    O: Dialer<Link = D::Link>,
+    C: Clock,
+>(
     rt: &R,
     alloc: Global,
     bytes: &[u8],
     files: &mut F,
     door: &mut D,
+    dialer: &O,
     clock: &C,
-) -> Ran<'a, D::Link>
-    ensures { spec.ServesBytes D.Link.input D.Link.output (C.tells clock.now) bytes.now
+) -> Ran<'a, D::Link, O>
+    ensures serves { spec.ServesBytes D.Link.input D.Link.output (C.tells clock.now) bytes.now
         (F.sizes files.old) (F.sizes files.new) (D.door_faults door.old) (D.door_faults door.new)
         result.course result.journal.entries result.conns.items }
+    ensures dialers { AreBounded (λ slot. vain_dials slot result.journal.entries) (O.dial_faults dialer.now)
+        (map O.dial_faults result.dialers.items) }
 {
     match read_config(alloc, bytes) {
         Ok(config) => match Dialplan::build(alloc, &config, files) {
-            Ok(plan) => serve_config(rt, alloc, config, plan, door, clock),
+            Ok(plan) => serve_config(rt, alloc, config, plan, door, dialer, clock),
             Err(fault) => Ran::nothing(alloc, Course::Run(not_built(fault))),
         },
         Err(fault) => Ran::nothing(alloc, Course::Run(not_read(fault))),
@@ -207,17 +251,20 @@ fn serve_bytes<'a, R: Threads + Wait + Sync, F: Files, D: Door + Send, C: Clock>
 }
 
 // Listens where a configuration says, and serves it.
-fn serve_config<'a, R: Threads + Wait + Sync, D: Door + Send, C: Clock>(
+fn serve_config<'a, R: Threads + Wait + Sync, D: Door + Send, O: Dialer<Link = D::Link>, C: Clock>(
     rt: &R,
     alloc: Global,
     config: Config,
     plan: Dialplan,
     door: &mut D,
+    dialer: &O,
     clock: &C,
-) -> Ran<'a, D::Link>
+) -> Ran<'a, D::Link, O>
     requires { plan ≡ config.contexts }
-    ensures { spec.ServesConfig D.Link.input D.Link.output (C.tells clock.now) config
+    ensures serves { spec.ServesConfig D.Link.input D.Link.output (C.tells clock.now) config
         (D.door_faults door.old) (D.door_faults door.new) result.course result.journal.entries result.conns.items }
+    ensures dialers { AreBounded (λ slot. vain_dials slot result.journal.entries) (O.dial_faults dialer.now)
+        (map O.dial_faults result.dialers.items) }
 {
     let settings = config.settings();
     let slots = settings.max_sessions;
@@ -227,37 +274,40 @@ fn serve_config<'a, R: Threads + Wait + Sync, D: Door + Send, C: Clock>(
         Listen::Failed => return Ran::nothing(alloc, Course::DoorFault),
     }
     match Machine::new(alloc, config, plan) {
-        Ok(machine) => serve_machine(rt, alloc, machine, slots, links, door, clock),
+        Ok(machine) => serve_machine(rt, alloc, machine, slots, links, door, dialer, clock),
         Err(Memory) => Ran::without_memory(alloc),
     }
 }
 
 // Serves a switch to which nothing has happened.
-fn serve_machine<'a, R: Threads + Wait + Sync, D: Door + Send, C: Clock>(
+fn serve_machine<'a, R: Threads + Wait + Sync, D: Door + Send, O: Dialer<Link = D::Link>, C: Clock>(
     rt: &R,
     alloc: Global,
     machine: Machine,
     slots: u16,
     links: u16,
     door: &mut D,
+    dialer: &O,
     clock: &C,
-) -> Ran<'a, D::Link>
+) -> Ran<'a, D::Link, O>
     requires { machine.journal ≡ [] }
-    ensures { spec.ServesConfig D.Link.input D.Link.output (C.tells clock.now) machine.config
+    ensures serves { spec.ServesConfig D.Link.input D.Link.output (C.tells clock.now) machine.config
         (D.door_faults door.old) (D.door_faults door.new) result.course result.journal.entries result.conns.items }
+    ensures dialers { AreBounded (λ slot. vain_dials slot result.journal.entries) (O.dial_faults dialer.now)
+        (map O.dial_faults result.dialers.items) }
 {
     machine.sound();
     let Ok((book, pass)) = Book::start(alloc, machine) else {
         return Ran::without_memory(alloc);
     };
-    match serve_book(rt, alloc, book, pass, slots, links, door, clock) {
-        Ok((machine, conns)) => conclude(machine, conns),
+    match serve_book(rt, alloc, book, pass, slots, links, door, dialer, clock) {
+        Ok((machine, gathered)) => conclude(machine, gathered),
         Err(Memory) => Ran::without_memory(alloc),
     }
 }
 
 // Serves over a book to which nothing has happened, and closes it.
-fn serve_book<R: Threads + Wait + Sync, D: Door + Send, C: Clock>(
+fn serve_book<R: Threads + Wait + Sync, D: Door + Send, O: Dialer<Link = D::Link>, C: Clock>(
     rt: &R,
     alloc: Global,
     book: Book<Machine>,
@@ -265,23 +315,29 @@ fn serve_book<R: Threads + Wait + Sync, D: Door + Send, C: Clock>(
     slots: u16,
     links: u16,
     door: &mut D,
+    dialer: &O,
     clock: &C,
-) -> Result<(Machine, Vec<Conn<D::Link>>), Memory>
+) -> Result<(Machine, Gathered<D::Link, O>), Memory>
     requires book { IsPassOf configured book pass }
     requires first { IsFirstPass pass }
     requires run { IsJournal (configured (opening_state book)) [] }
-    ensures { IfOk result (λ r. spec.Ends D.Link.input D.Link.output (C.tells clock.now)
+    ensures ends { IfOk result (λ r. spec.Ends D.Link.input D.Link.output (C.tells clock.now)
         (configured (opening_state book)) (D.door_faults door.old) (D.door_faults door.new)
-        r.0.config r.0.journal r.1.items) }
+        r.0.config r.0.journal r.1.conns.items) }
+    ensures dialers { IfOk result (λ r. AreBounded (λ slot. vain_dials slot r.0.journal) (O.dial_faults dialer.now)
+        (map O.dial_faults r.1.dialers.items)) }
 {
     let mut pass = pass;
-    let conns = serve_to_end(rt, alloc, &book, &mut pass, slots, links, door, clock)?;
-    let machine = close(book, pass, clock, &conns);
-    Ok((machine, conns))
+    let gathered = serve_to_end(
+        rt, alloc, &book, &mut pass, slots, links, door, dialer, clock,
+    )?;
+    let machine = close(book, pass, clock, &gathered.conns);
+    Ok((machine, gathered))
 }
 
-// Serves over a book to which nothing has happened, until the switch is settled, and gives the connections that came.
-fn serve_to_end<R: Threads + Wait + Sync, D: Door + Send, C: Clock>(
+// Serves over a book to which nothing has happened, until the switch is settled, and gives the connections that came and
+// the dialers.
+fn serve_to_end<R: Threads + Wait + Sync, D: Door + Send, O: Dialer<Link = D::Link>, C: Clock>(
     rt: &R,
     alloc: Global,
     book: &Book<Machine>,
@@ -289,42 +345,56 @@ fn serve_to_end<R: Threads + Wait + Sync, D: Door + Send, C: Clock>(
     slots: u16,
     links: u16,
     door: &mut D,
+    dialer: &O,
     clock: &C,
-) -> Result<Vec<Conn<D::Link>>, Memory>
+) -> Result<Gathered<D::Link, O>, Memory>
     requires book { IsPassOf configured book.now pass.old }
     requires first { IsFirstPass pass.old }
     requires run { IsJournal (configured (opening_state book.now)) [] }
     ensures book { IsPassOf configured book.now pass.new }
     ensures parts { OnOk result (parts pass.new ≡ 2 ^ 62) }
-    ensures keeps { IfOk result (λ conns. Keeps D.Link.input D.Link.output
+    ensures keeps { IfOk result (λ gathered. Keeps D.Link.input D.Link.output
         (MayEnter (C.tells clock.now) (Rose (D.door_faults door.old) (D.door_faults door.new)))
-        (configured (opening_state book.now)) (seen pass.new) (mine pass.new ∷ met pass.new) conns.items) }
+        (configured (opening_state book.now)) (seen pass.new) (mine pass.new ∷ met pass.new) gathered.conns.items) }
+    ensures bounded { IfOk result (λ gathered.
+        AreBounded (λ slot. vain_in slot (seen pass.new) (mine pass.new ∷ met pass.new)) (O.dial_faults dialer.now)
+        (map O.dial_faults gathered.dialers.items)) }
     ensures settled { OnOk result
         (is_settled (state_after (configured (opening_state book.now)) (seen pass.new)) ≡ true) }
 {
-    let mut conns = Vec::new(alloc);
     let came = Arc::new(alloc, Came::new(alloc))?;
-    let kinds = kinds_for(alloc, slots, links)?;
-    let mut lanes = make_lanes(alloc, book, pass, clock, &came, kinds)?;
+    let mut lanes = make_slots(alloc, book, pass, clock, dialer, slots)?;
+    add_staff(
+        alloc,
+        book,
+        pass,
+        clock,
+        &came,
+        kinds_for(alloc, links)?,
+        &mut lanes,
+    )?;
     run_beside(rt, book, &came, clock, door, pass, lanes.as_mut_slice());
-    gather(book, pass, clock, &mut conns, lanes)?;
+    let gathered = gather(alloc, book, pass, clock, slots, lanes)?;
     settle(rt, book, pass, clock);
-    Ok(conns)
+    Ok(gathered)
 }
 
 // What a switch came to that has run to its end.
-fn conclude<'a, L: Link>(machine: Machine, conns: Vec<Conn<L>>) -> Ran<'a, L>
+fn conclude<'a, L: Link, O: Drop>(machine: Machine, gathered: Gathered<L, O>) -> Ran<'a, L, O>
     requires { is_settled (state_of machine) ≡ true }
     ensures course { spec.Concludes machine.config machine.journal result.course }
     ensures journal { result.journal.entries ≡ machine.journal }
-    ensures conns { result.conns.items ≡ conns.items }
+    ensures conns { result.conns.items ≡ gathered.conns.items }
+    ensures dialers { result.dialers.items ≡ gathered.dialers.items }
 {
     machine.sound();
     let course = course_behind(&machine);
+    let Gathered { conns, dialers } = gathered;
     Ran {
         course,
         journal: machine.into_journal(),
         conns,
+        dialers,
     }
 }
 

@@ -5,7 +5,7 @@ ghost use Rattle.fs_ports.specs.Memory.{IsNewTape};
 
 use crate::telling::{How, tell_served};
 use case_desk::{Answer, Desk, Table, length_of, number_of};
-use fs_ports::{Flag, MemDoor, MemLink, MemLinks, Sent, Sink, StepClock, send_all};
+use fs_ports::{Flag, MemDialer, MemDoor, MemLink, MemLinks, Sent, Sink, StepClock, send_all};
 use fs_text::{Memory, Txt};
 use fs_top::{is_serve, serve};
 use std::alloc::Global;
@@ -22,14 +22,16 @@ const TURNS: u64 = 1_000_000;
 // How far the clock goes on at a nap, in microseconds.
 const STEP: u64 = 1000;
 
-/// What the lines so far laid out: a document, the links that come, and what fails at the door; and how much is to be
-/// told of a server over them, where the last line asked for one.
+/// What the lines so far laid out: a document, the links that come, those that are dialed, and what fails at the door and
+/// at dialers; and how much is to be told of a server over them, where the last line asked for one.
 #[derive(Drop)]
 pub(crate) struct Serves {
     table: Table,
     links: NewLinks,
+    controllers: NewLinks,
     flags: Vec<Flag>,
     failed_accepts: Vec<u64>,
+    failed_dials: Vec<u64>,
     step: u64,
     is_deaf: bool,
     asked: Option<How>,
@@ -69,8 +71,10 @@ impl Serves {
         Serves {
             table: Table::new(alloc),
             links: NewLinks::none(alloc),
+            controllers: NewLinks::none(alloc),
             flags: Vec::new(alloc),
             failed_accepts: Vec::new(alloc),
+            failed_dials: Vec::new(alloc),
             step: STEP,
             is_deaf: false,
             asked: None,
@@ -101,8 +105,10 @@ impl Serves {
     fn clear(&mut self, alloc: Global) {
         self.table.clear();
         self.links = NewLinks::none(alloc);
+        self.controllers = NewLinks::none(alloc);
         self.flags.clear();
         self.failed_accepts.clear();
+        self.failed_dials.clear();
         self.step = STEP;
         self.is_deaf = false;
     }
@@ -119,14 +125,26 @@ impl Serves {
         }
     }
 
-    // Has the link come that the lines laid out, as the words behind it say.
-    fn take_link(&mut self, words: &str, alloc: Global) -> Result<(), Memory> {
+    // The link that the lines laid out, as the words behind it say.
+    fn new_link(&mut self, words: &str, alloc: Global) -> Result<MemLink, Memory>
+        ensures { IfOk result (λ link. IsNewTape link) }
+    {
         let words = words.split_whitespace().collect::<Vec<&str>>(alloc)?;
         let link = self.table.link(ROOM)?;
-        let link = self.held(words.as_slice(), link, alloc)?;
-        self.links.push(link)?;
         self.table.clear();
-        Ok(())
+        self.held(words.as_slice(), link, alloc)
+    }
+
+    // Has a link come.
+    fn take_link(&mut self, words: &str, alloc: Global) -> Result<(), Memory> {
+        let link = self.new_link(words, alloc)?;
+        self.links.push(link)
+    }
+
+    // Has the dialers give a link.
+    fn take_controller(&mut self, words: &str, alloc: Global) -> Result<(), Memory> {
+        let link = self.new_link(words, alloc)?;
+        self.controllers.push(link)
     }
 
     // A link that `hold FROM FLAG` holds, in front of what it raises. Nobody raises the flag `never`.
@@ -174,10 +192,17 @@ impl Serves {
         }
         let mut files = self.table.files()?;
         let links = std::mem::replace(&mut self.links, NewLinks::none(alloc)).into_links();
+        let controllers = std::mem::replace(
+            &mut self.controllers,
+            NewLinks::none(alloc),
+        ).into_links();
         let mut door = MemDoor::new(alloc, links, &self.failed_accepts, self.is_deaf)?;
+        let dialer = MemDialer::new(alloc, controllers, &self.failed_dials)?;
         let mut err = MemLink::new(alloc, &[], &[], &[], &[], ROOM)?;
         let clock = StepClock::new(0, self.step);
-        let served = serve(rt, alloc, &words, &mut files, &mut door, &clock, &mut err);
+        let served = serve(
+            rt, alloc, &words, &mut files, &mut door, &dialer, &clock, &mut err,
+        );
         answer.told(format_args!("status {}", served.status.code));
         answer.lines(err.written());
         tell_served(&served, self.table.file(), how, answer)
@@ -190,6 +215,11 @@ impl Serves {
                 let done = self.take_link(rest, answer.alloc());
                 answer.note(done);
             }
+            "controller" => {
+                let done = self.take_controller(rest, answer.alloc());
+                answer.note(done);
+            }
+            "failed-dials" => answer.add_numbers(rest, &mut self.failed_dials),
             "failed-accepts" => answer.add_numbers(rest, &mut self.failed_accepts),
             "step" => self.step = number_of(rest),
             "deaf" => self.is_deaf = true,

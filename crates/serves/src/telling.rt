@@ -2,7 +2,7 @@
 
 use crate::replay::{Played, played_again};
 use case_desk::Answer;
-use fs_ports::MemLink;
+use fs_ports::{MemDialer, MemLink};
 use fs_text::Memory;
 use fs_top::{Conn, Served};
 use std::alloc::Global;
@@ -33,7 +33,7 @@ impl How {
 /// Tells of each connection how it ended and what was written to it, in order of these texts; and whether what was
 /// written to each is a front of what its frames are, played again by the journal.
 pub(crate) fn tell_served(
-    served: &Served<MemLink>,
+    served: &Served<MemLink, MemDialer>,
     file: &[u8],
     how: How,
     answer: &mut Answer,

@@ -1,8 +1,8 @@
-use Rattle.std.proofs.Common.{◌≡◌, ◌⊎◌, inl, inr, ℕ, [], ◌∷◌, refl, sym, subst, ◌∙◌}
+use Rattle.std.proofs.Common.{◌≡◌, ◌⊎◌, inl, inr, ℕ, [], ◌∷◌, None, refl, sym, subst, ◌∙◌}
 use Rattle.fs_book.specs.Passes.{seen, mine, met, opening_state}
 use Rattle.fs_machine.specs.Turned.{configured}
 use Rattle.fs_top.specs.Doors.{Rose}
-use Rattle.fs_top.specs.Lanes.{MayEnter}
+use Rattle.fs_top.specs.Lanes.{Enters}
 use Rattle.fs_top.proofs.LaneLemmas.{keeps_looked, keeps_may}
 use Rattle.fs_top.proofs.DoorLemmas.{rose_raised, keeps_halts, may_halt}
 use Rattle.fs_top.proofs.accepting.accept_all.Goals as goal
@@ -16,9 +16,9 @@ links-init g c =
       parts_kept = refl;
       rises = inl refl;
       keeps =
-          keeps_may g.D.Link.Port.input g.D.Link.Port.output (MayEnter tells ⊥) (MayEnter tells (Rose first first))
+          keeps_may g.D.Link.Port.input g.D.Link.Port.output (Enters tells ⊥ None) (Enters tells (Rose first first) None)
           (configured (opening_state c.args.book.now)) (seen pass) (mine pass ∷ met pass) []
-          (λ entry allowed. (allowed.0, λ halts. absurd (allowed.1 halts))) c.requires.keeps;
+          (λ entry allowed. ((allowed.0.0, λ halts. absurd (allowed.0.1 halts)), allowed.1)) c.requires.keeps;
     }
 
 pub returns-then-is_ending-clause-keeps : goal.returns-then-is_ending-clause-keeps
@@ -48,7 +48,7 @@ links-preserved-in-Came g c =
       keeps =
           may_halt input output tells config (seen looked) (mine looked ∷ met looked) [] first now next
           (λ rose. subst (Rose first) (sym same) rose)
-          (keeps_looked input output (MayEnter tells (Rose first now)) config looked.seat.me.0.start (seen old) (seen looked) (mine old)
+          (keeps_looked input output (Enters tells (Rose first now) None) config looked.seat.me.0.start (seen old) (seen looked) (mine old)
           (mine looked) (met old) (met looked) [] c.is_ending.ensures.book.1 c.is_ending.ensures.later kept.0 kept.1 old.sound.places
           looked.sound.owned c.is_ending.ensures.run c.links.invariant.keeps);
     }
@@ -72,7 +72,7 @@ links-preserved-in-NotYet g c =
       keeps =
           may_halt input output tells config (seen looked) (mine looked ∷ met looked) [] first now next
           (λ rose. subst (Rose first) (sym same) rose)
-          (keeps_looked input output (MayEnter tells (Rose first now)) config looked.seat.me.0.start (seen old) (seen looked) (mine old)
+          (keeps_looked input output (Enters tells (Rose first now) None) config looked.seat.me.0.start (seen old) (seen looked) (mine old)
           (mine looked) (met old) (met looked) [] c.is_ending.ensures.book.1 c.is_ending.ensures.later kept.0 kept.1 old.sound.places
           looked.sound.owned c.is_ending.ensures.run c.links.invariant.keeps);
     }
@@ -98,7 +98,7 @@ links-preserved g c =
           keeps_halts input output tells (Rose first next) config new.seat.me.0.start (seen looked) (seen new) (mine looked) (mine new)
           (met looked) (met new) [] c.halt.ensures.book.1 rose c.halt.ensures.kept.0 looked.sound.places new.sound.owned
           (may_halt input output tells config (seen looked) (mine looked ∷ met looked) [] first now next (λ _. rose)
-          (keeps_looked input output (MayEnter tells (Rose first now)) config looked.seat.me.0.start (seen old) (seen looked) (mine old)
+          (keeps_looked input output (Enters tells (Rose first now) None) config looked.seat.me.0.start (seen old) (seen looked) (mine old)
           (mine looked) (met old) (met looked) [] c.is_ending.ensures.book.1 c.is_ending.ensures.later kept.0 kept.1 old.sound.places
           looked.sound.owned c.is_ending.ensures.run c.links.invariant.keeps)) c.halt.ensures.halts;
     }

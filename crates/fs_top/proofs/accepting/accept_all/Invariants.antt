@@ -1,8 +1,8 @@
-use Rattle.std.proofs.Common.{◌≡◌, ◌⊎◌, [], ◌∷◌}
+use Rattle.std.proofs.Common.{◌≡◌, ◌⊎◌, [], ◌∷◌, None}
 use Rattle.fs_book.specs.Passes.{seen, mine, met, parts, opening_state, IsPassOf}
 use Rattle.fs_machine.specs.Turned.{configured}
 use Rattle.fs_top.specs.Doors.{Rose}
-use Rattle.fs_top.specs.Lanes.{Keeps, MayEnter}
+use Rattle.fs_top.specs.Lanes.{Keeps, Enters}
 use Rattle.fs_top.proofs.accepting.accept_all.Given as goal
 
 abbrev pub invariant-links : goal.invariant-links
@@ -12,6 +12,6 @@ invariant-links g l = record {
   rises : (g.D.Door.door_faults l.door ≡ g.D.Door.door_faults l.fn.door)
       ⊎ Rose (g.D.Door.door_faults l.fn.door) (g.D.Door.door_faults l.door);
   keeps : Keeps g.D.Link.Port.input g.D.Link.Port.output
-      (MayEnter (g.C.Clock.tells l.fn.clock) (Rose (g.D.Door.door_faults l.fn.door) (g.D.Door.door_faults l.door)))
+      (Enters (g.C.Clock.tells l.fn.clock) (Rose (g.D.Door.door_faults l.fn.door) (g.D.Door.door_faults l.door)) None)
       (configured (opening_state l.fn.book)) (seen l.pass) (mine l.pass ∷ met l.pass) [];
 }

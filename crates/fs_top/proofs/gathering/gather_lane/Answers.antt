@@ -1,16 +1,18 @@
-use Rattle.fs_book.specs.Passes.{seen, mine, met, opening_state}
-use Rattle.fs_machine.specs.Turned.{configured}
-use Rattle.fs_top.specs.Doors.{Rose}
-use Rattle.fs_top.proofs.GatherLemmas.{keeps_lane}
+use Rattle.std.proofs.Common.{◌≡◌, ◌∷◌, sym, subst}
+use Rattle.std.proofs.lemmas.Result.{on_ok_weaker}
+use Rattle.fs_book.specs.Passes.{seen, mine, met}
+use Rattle.fs_top.specs.Dials.{vain_in, AreBounded}
+use Rattle.fs_top.specs.Standing.{HasFailed}
 use Rattle.fs_top.proofs.gathering.gather_lane.Goals as goal
 
-pub returns-clause-keeps : goal.returns-clause-keeps
-returns-clause-keeps g c = λ from to before.
-    let old = c.args.pass.now in
-    let other = c.args.lane.pass in
-    let new = c.meet.new.pass in
-    keeps_lane g.L.Port.input g.L.Port.output (g.C.Clock.tells c.args.clock.now) (Rose from to)
-    (configured (opening_state c.args.book.now)) new.seat.me.0.start (seen old) (seen other) (seen new) (mine old) (mine other) (mine new)
-    (met old) (met other) (met new) c.args.conns.now.items c.args.lane.conns.items c.append.new.self.items c.meet.ensures.book.1
-    c.meet.ensures.seen c.meet.ensures.lists c.in_ok-append.ensures.items old.sound.places other.sound.places new.sound.owned
-    c.requires.lane.keeps before
+pub returns-in-Slot-clause-bounded : goal.returns-in-Slot-clause-bounded
+returns-in-Slot-clause-bounded g c =
+    on_ok_weaker c.gather_slot.result
+    (λ bounded from failed before. bounded from (subst (HasFailed g.O.Dialer.dial_faults from) c.in-Slot.is failed) before)
+    c.gather_slot.ensures.bounded
+
+pub returns-in-Staff-clause-bounded : goal.returns-in-Staff-clause-bounded
+returns-in-Staff-clause-bounded g c =
+    on_ok_weaker c.gather_staff.result
+    (λ bounded from failed before. bounded from _ before)
+    c.gather_staff.ensures.bounded

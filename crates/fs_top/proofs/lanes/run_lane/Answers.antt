@@ -1,13 +1,7 @@
-use Rattle.fs_top.proofs.StandLemmas.{lane_told}
+use Rattle.std.proofs.Common.{subst}
+use Rattle.fs_top.specs.Standing.{HasFailed}
 use Rattle.fs_top.proofs.lanes.run_lane.Goals as goal
 
-pub work-requires-clause-stands : goal.work-requires-clause-stands
-work-requires-clause-stands g c =
-    λ _ _.
-    lane_told g.L.Port.input g.L.Port.output (g.C.Clock.tells c.args.clock.now) (g.C.Clock.tells c.of_sleeper-clock.result) c.args.book.now _
-    (λ moment told. (c.of_sleeper-clock.ensures moment).1 told) c.requires
-
-pub returns : goal.returns
-returns g c =
-    lane_told g.L.Port.input g.L.Port.output (g.C.Clock.tells c.of_sleeper-clock.result) (g.C.Clock.tells c.args.clock.now) c.args.book.now _
-    (λ moment told. (c.of_sleeper-clock.ensures moment).0 told) c.work.ensures
+pub returns-in-Slot-clause-failed : goal.returns-in-Slot-clause-failed
+returns-in-Slot-clause-failed g c = λ from failed.
+    c.run_slot.ensures.failed from (subst (HasFailed g.O.Dialer.dial_faults from) c.in-Slot.is failed)

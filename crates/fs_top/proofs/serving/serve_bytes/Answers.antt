@@ -4,15 +4,15 @@ use Rattle.fs_top.specs.declared.course.Course.TheVariants.{Run}
 use Rattle.fs_top.proofs.ServeLaws.{serves_faulty, serves_unbuilt}
 use Rattle.fs_top.proofs.serving.serve_bytes.Goals as goal
 
-pub returns-in-Ok-build : goal.returns-in-Ok-build
-returns-in-Ok-build g c = configured c.in-Ok.config c.in-Ok.ensures c.serve_config.ensures
+pub returns-in-Ok-build-clause-serves : goal.returns-in-Ok-build-clause-serves
+returns-in-Ok-build-clause-serves g c = configured c.in-Ok.config c.in-Ok.ensures c.serve_config.ensures.serves
 
-pub returns-in-Ok : goal.returns-in-Ok
-returns-in-Ok g c =
+pub returns-in-Ok-clause-serves : goal.returns-in-Ok-clause-serves
+returns-in-Ok-clause-serves g c =
     serves_unbuilt _ _ _ _ _ _ _ _ _ _ _ _ _ c.in-Ok.ensures c.in-Err-build.ensures.refused c.in-Err-build.ensures.sizes
     (c.nothing.ensures.course ∙ ap Run c.not_built.ensures) c.nothing.ensures.journal c.nothing.ensures.conns
 
-pub returns : goal.returns
-returns g c =
+pub returns-clause-serves : goal.returns-clause-serves
+returns-clause-serves g c =
     serves_faulty _ _ _ _ _ _ _ _ _ _ _ _ c.in-Err.ensures (c.nothing-in-Err.ensures.course ∙ ap Run c.not_read.ensures)
     c.nothing-in-Err.ensures.journal c.nothing-in-Err.ensures.conns

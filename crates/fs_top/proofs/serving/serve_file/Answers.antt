@@ -4,23 +4,23 @@ use Rattle.fs_top.specs.Serving.{no_file, read, status_of_course}
 use Rattle.fs_top.proofs.ServeLaws.{serves_unread}
 use Rattle.fs_top.proofs.serving.serve_file.Goals as goal
 
-pub returns : goal.returns
-returns g c =
+pub returns-clause-serves : goal.returns-clause-serves
+returns-clause-serves g c =
     let loaded = rw c.in-Ok-Got.field-0-is at c.in-Ok-Got.ensures in
-    read c.in-Ok-Got.bytes loaded.told (rw (c.as_bytes.ensures, c.load.ensures.sizes) at c.serve_bytes.ensures)
+    read c.in-Ok-Got.bytes loaded.told (rw (c.as_bytes.ensures, c.load.ensures.sizes) at c.serve_bytes.ensures.serves)
 
-pub returns-in-Ok-Absent : goal.returns-in-Ok-Absent
-returns-in-Ok-Absent g c =
+pub returns-in-Ok-Absent-clause-serves : goal.returns-in-Ok-Absent-clause-serves
+returns-in-Ok-Absent-clause-serves g c =
     let loaded = rw c.in-Ok-Absent.field-0-is at c.in-Ok-Absent.ensures in
     serves_unread _ _ _ _ _ Absent _ _ _ _ _ _ _ _ _ loaded.told loaded.counts (inl refl)
     (ap status_of_course c.nothing.ensures.course) c.nothing.ensures.journal c.nothing.ensures.conns
 
-pub returns-in-Ok-Failed : goal.returns-in-Ok-Failed
-returns-in-Ok-Failed g c =
+pub returns-in-Ok-Failed-clause-serves : goal.returns-in-Ok-Failed-clause-serves
+returns-in-Ok-Failed-clause-serves g c =
     let loaded = rw c.in-Ok-Failed.field-0-is at c.in-Ok-Failed.ensures in
     serves_unread _ _ _ _ _ Failed _ _ _ _ _ _ _ _ _ loaded.told loaded.counts (inr refl)
     (ap status_of_course c.nothing-in-Ok-Failed.ensures.course) c.nothing-in-Ok-Failed.ensures.journal
     c.nothing-in-Ok-Failed.ensures.conns
 
-pub returns-in-Err : goal.returns-in-Err
-returns-in-Err g c = no_file c.without_memory.ensures.course c.without_memory.ensures.journal c.without_memory.ensures.conns
+pub returns-in-Err-clause-serves : goal.returns-in-Err-clause-serves
+returns-in-Err-clause-serves g c = no_file c.without_memory.ensures.course c.without_memory.ensures.journal c.without_memory.ensures.conns

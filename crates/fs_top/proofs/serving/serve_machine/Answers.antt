@@ -1,7 +1,20 @@
+use Rattle.std.proofs.Common.{◌≡◌, List, map, sym, subst}
+use Rattle.fs_machine.specs.declared.entry.Entry.{Entry}
+use Rattle.fs_top.specs.Dials.{vain_dials, AreBounded}
 use Rattle.fs_top.specs.Serving.{no_machine}
 use Rattle.fs_top.proofs.ServeLaws.{ends_settled, serves_ended}
 use Rattle.fs_top.proofs.serving.serve_machine.Goals as goal
 
-pub returns-in-Err : goal.returns-in-Err
-returns-in-Err g c =
+pub returns-in-Err-clause-serves : goal.returns-in-Err-clause-serves
+returns-in-Err-clause-serves g c =
     no_machine c.without_memory-in-Err.ensures.course c.without_memory-in-Err.ensures.journal c.without_memory-in-Err.ensures.conns
+
+pub returns-in-Ok-serve_book-clause-dialers : goal.returns-in-Ok-serve_book-clause-dialers
+returns-in-Ok-serve_book-clause-dialers g c =
+    let faults = g.O.Dialer.dial_faults in
+    let from = faults c.args.dialer.now in
+    let journal = c.in-Ok-serve_book.machine.journal in
+    subst (λ (log : List Entry). AreBounded (λ slot. vain_dials slot log) from (map faults c.conclude.result.dialers.items))
+    (sym c.conclude.ensures.journal)
+    (subst (λ ds. AreBounded (λ slot. vain_dials slot journal) from (map faults ds)) (sym c.conclude.ensures.dialers)
+    c.in-Ok-serve_book.ensures.dialers)

@@ -1,0 +1,66 @@
+//! A lane works a slot, or the jobs.
+
+ghost use Rattle.std.specs.Prelude.{◌≡◌, ℕ, ◌∷◌};
+ghost use Rattle.fs_book.specs.Passes.{seen, mine, met, parts, opening_state, IsPassOf};
+ghost use Rattle.fs_machine.specs.Turned.{configured};
+ghost use Rattle.fs_top.specs.Dials.{vain_in};
+ghost use Rattle.fs_top.specs.Lanes.{Keeps, Enters, slot_of};
+
+use crate::conns::Conn;
+use fs_book::{Book, Pass};
+use fs_machine::{Machine, Refusal};
+use fs_out::Target;
+use fs_ports::{Clock, Link};
+use fs_session::{Actor, Worked, work_once};
+use std::alloc::Global;
+use std::sync::Wait;
+
+/// Why whoever works a slot, or the jobs, does not go on.
+#[derive(Drop)]
+pub(crate) enum Pause {
+    /// This controller is to be dialed for the channel in the slot.
+    Talk(Target),
+    /// The switch has come to its end and nothing of the actor is left, or the journal is full.
+    Over,
+}
+
+/// Works a slot, or the jobs, again and again, until there is a reason not to go on.
+pub(crate) fn run_turns<R: Wait, C: Clock, L: Link>(
+    rt: &R,
+    alloc: Global,
+    book: &Book<Machine>,
+    pass: &mut Pass<Machine>,
+    actor: Actor,
+    clock: &C,
+    conns: &Vec<Conn<L>>,
+) -> Pause
+    requires book { IsPassOf configured book.now pass.old }
+    requires keeps { Keeps L.input L.output (Enters (C.tells clock.now) ⊥ (slot_of actor))
+        (configured (opening_state book.now)) (seen pass.old) (mine pass.old ∷ met pass.old) conns.now.items }
+    ensures book { IsPassOf configured book.now pass.new }
+    ensures parts { parts pass.new ≡ parts pass.old }
+    ensures keeps { Keeps L.input L.output (Enters (C.tells clock.now) ⊥ (slot_of actor))
+        (configured (opening_state book.now)) (seen pass.new) (mine pass.new ∷ met pass.new) conns.now.items }
+    ensures vain { (slot : ℕ) → vain_in slot (seen pass.new) (mine pass.new ∷ met pass.new)
+        ≡ vain_in slot (seen pass.old) (mine pass.old ∷ met pass.old) }
+{
+    'turns: for _ in rt.forever() {
+        let worked = work_once(rt, alloc, book, pass, actor, clock.now());
+        if let Some(pause) = follow(worked, clock) {
+            return pause;
+        }
+    }
+    unreachable!()
+}
+
+// Wakes whoever has something to do behind a turn, or naps, unless it is the last one.
+fn follow<C: Clock>(worked: Worked, clock: &C) -> Option<Pause> {
+    match worked {
+        Worked::Did(_, wakes) => clock.wake(&wakes),
+        Worked::Idle { next: Some(moment) } => clock.nap_until(moment),
+        Worked::Idle { next: None } | Worked::Refused(Refusal::Memory) => clock.nap(),
+        Worked::Talk(target) => return Some(Pause::Talk(target)),
+        Worked::Stopped | Worked::Refused(_) => return Some(Pause::Over),
+    }
+    None
+}

@@ -9,6 +9,7 @@ import sys
 import time
 import traceback
 
+import controllers
 import crowds
 import endings
 import rudeness
@@ -51,6 +52,9 @@ CHECKS = {
     "idle": times.idle,
     "quick": times.quick,
     "waiting": times.waiting,
+    "controlled": controllers.controlled,
+    "held": controllers.held,
+    "dialing": controllers.dialing,
 }
 
 

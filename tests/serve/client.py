@@ -12,25 +12,15 @@ class Ended(Exception):
     """The connection is at its end."""
 
 
-class Client:
-    def __init__(self, port, password="ClueCon", seconds=30, receive_buffer=None):
-        """Connects, and gives the password where there is one."""
-        self.socket = socket.socket()
-        if receive_buffer:
-            self.socket.setsockopt(socket.SOL_SOCKET, socket.SO_RCVBUF, receive_buffer)
+class Peer:
+    """An end of a connection to the program."""
+
+    def __init__(self, connected, seconds=30):
+        self.socket = connected
         self.socket.setsockopt(socket.IPPROTO_TCP, socket.TCP_NODELAY, 1)
         self.socket.settimeout(seconds)
-        self.socket.connect(("127.0.0.1", port))
         self.rest = b""
         self.events = []
-        if password:
-            self.greet(password)
-
-    def greet(self, password):
-        kind = self.frame().headers["Content-Type"]
-        answer = text_of(self.command("auth " + password))
-        if (kind, answer) != ("auth/request", "+OK accepted"):
-            raise AssertionError(f"the password was answered {kind} and {answer}")
 
     def send(self, data):
         self.socket.sendall(data)
@@ -76,13 +66,20 @@ class Client:
         return text_of(self.command("api " + command))
 
     def event(self):
-        """The next event."""
+        """The headers of the next event."""
+        return headers_of(self.event_frame())
+
+    def event_body(self):
+        """The body of the next event."""
+        return self.event_frame().body.decode().partition("\n\n")[2]
+
+    def event_frame(self):
         if self.events:
-            return headers_of(self.events.pop(0))
+            return self.events.pop(0)
         frame = self.frame()
         if frame.headers["Content-Type"] != "text/event-plain":
             raise AssertionError(f"{frame} in place of an event")
-        return headers_of(frame)
+        return frame
 
     def has_more(self, seconds):
         """Whether something comes in so many seconds."""
@@ -95,6 +92,25 @@ class Client:
         """Ends the connection without its farewell."""
         self.socket.setsockopt(socket.SOL_SOCKET, socket.SO_LINGER, struct.pack("ii", 1, 0))
         self.socket.close()
+
+
+class Client(Peer):
+    def __init__(self, port, password="ClueCon", seconds=30, receive_buffer=None):
+        """Connects, and gives the password where there is one."""
+        connecting = socket.socket()
+        if receive_buffer:
+            connecting.setsockopt(socket.SOL_SOCKET, socket.SO_RCVBUF, receive_buffer)
+        connecting.settimeout(seconds)
+        connecting.connect(("127.0.0.1", port))
+        super().__init__(connecting, seconds)
+        if password:
+            self.greet(password)
+
+    def greet(self, password):
+        kind = self.frame().headers["Content-Type"]
+        answer = text_of(self.command("auth " + password))
+        if (kind, answer) != ("auth/request", "+OK accepted"):
+            raise AssertionError(f"the password was answered {kind} and {answer}")
 
 
 def text_of(frame):

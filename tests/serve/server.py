@@ -34,6 +34,11 @@ DOCUMENT = """<document type="freeswitch/xml">
     <extension name="through"><condition field="destination_number" expression="^through$">
       <action application="bridge" data="loopback/late"/>
     </condition></extension>
+    <extension name="held"><condition field="destination_number" expression="^held$">
+      <action application="socket" data="127.0.0.1:{controller} full"/>
+      <action application="answer"/><action application="park"/>
+    </condition></extension>
+{extensions}
   </context></section>
 </document>
 """
@@ -55,10 +60,13 @@ def few_descriptors():
 
 
 class Server:
-    def __init__(self, program, connections=16, journal=MOST_JOURNAL):
+    def __init__(self, program, connections=16, journal=MOST_JOURNAL, controller=1, extensions=""):
+        """Calls of `loopback/held` dial the controller at this port; at port 1 nobody listens. Some extensions may be added."""
         self.port = free_port()
         self.document = tempfile.NamedTemporaryFile("w", suffix=".xml")
-        self.document.write(DOCUMENT.format(port=self.port, connections=connections, journal=journal))
+        self.document.write(DOCUMENT.format(
+            port=self.port, connections=connections, journal=journal, controller=controller, extensions=extensions,
+        ))
         self.document.flush()
         self.process = subprocess.Popen(
             [program, "serve", self.document.name], stdin=subprocess.DEVNULL, stderr=subprocess.PIPE,

@@ -9,7 +9,7 @@ from functools import partial
 from typing import Callable
 
 import bridges
-from applications import may_be_routed, transfer
+from applications import is_route, may_be_routed, transfer
 from dialing import DialFault, read_dial_string
 from dialplan import Action
 from frames import header_lines, variable_headers
@@ -37,21 +37,30 @@ class Command:
 
 COMMANDS = {}
 
+# what the program does not know yet, or in another way
+COMING = {}
 
-def command(name, usage="", takes_text=False):
+
+def command(name, usage="", takes_text=False, commands=COMMANDS):
     """Makes a function the api command of this name, with the words behind the name or the whole text."""
 
     def register(run):
-        COMMANDS[name] = Command(usage, run, takes_text)
+        commands[name] = Command(usage, run, takes_text)
         return run
 
     return register
 
 
+def known(switch, name):
+    """The command of this name. What is still to come is known to some switches alone, in place of what is there."""
+    coming = COMING if switch.coming else {}
+    return coming.get(name) or COMMANDS.get(name)
+
+
 def answer(switch, text):
     """What the api command answers that this text is."""
     name, rest = first_word(text)
-    asked = COMMANDS.get(name)
+    asked = known(switch, name)
     if asked is None:
         return f"-ERR {name} Command not found!\n"
     try:
@@ -212,13 +221,35 @@ def uuid_transfer(switch, words):
     identifier, *route = need(words, 2)[:4]
     if not may_be_routed(route):
         raise WrongUsage
-    transfer(switch, find_ready(switch, identifier), route)
+    transfer(switch, [find_ready(switch, identifier)], route)
+    return "+OK\n"
+
+
+SIDES = ("-both", "-bleg")
+
+
+@command("uuid_transfer", "<uuid> [-both|-bleg] <exten> [dialplan] [context]", commands=COMING)
+def uuid_transfer_of_sides(switch, words):
+    """`-both` routes the channel and its peer, `-bleg` its peer alone. Behind one of them stands any extension."""
+    identifier, *words = need(words, 2)
+    side = words.pop(0) if words[0] in SIDES else None
+    route = words[:3]
+    if not (is_route(route) if side else may_be_routed(route)):
+        raise WrongUsage
+    channel = find_ready(switch, identifier)
+    if side and channel.peer is None:
+        raise Refused("Channel not bridged!")
+    moved = {None: [channel], "-both": [channel, channel.peer], "-bleg": [channel.peer]}
+    transfer(switch, moved[side], route)
     return "+OK\n"
 
 
 @command("uuid_bridge", "<uuid> <other_uuid>")
 def uuid_bridge(switch, words):
-    """Both leave what they were in. Where one died of that, the other one stays as it is then."""
+    """Both leave what they were in. Where one died of that, the other one stays as it is then.
+
+    Bridges that they stand in are something to leave for what is still to come alone.
+    """
     caller, other = bridgeable(switch, *need(words, 2)[:2])
     leave(switch, [caller, other])
     if not caller.live() or not other.live():
@@ -238,7 +269,7 @@ def bridgeable(switch, *identifiers):
         raise Refused("Channel not ready!")
     if not all(channel.answered for channel in both):
         raise Refused("Channel not answered!")
-    if any(channel.bridge for channel in both):
+    if any(channel.bridge for channel in both) and not switch.coming:
         raise Refused("Channel already bridged!")
     return both
 

@@ -4,7 +4,7 @@ import queues
 from channels import Wait
 from dialing import DialFault, read_dial_string
 from dialplan import INLINE, assign
-from hangups import hang_up, leave
+from hangups import by_slot, hang_up, leave
 from originations import USUAL_SECONDS, originate
 from races import fail_bridge
 from tables import State, cause_or, words_of
@@ -84,27 +84,32 @@ def run_park(switch, channel, _argument):
         switch.park(channel)
 
 
+def is_route(words):
+    """There is an extension, and none of the three words is too long."""
+    return bool(words) and all(len(word) <= LONGEST_NAME for word in words[:3])
+
+
 def may_be_routed(words):
-    """An extension begins with no minus, and none of the three words is too long."""
-    short = all(len(word) <= LONGEST_NAME for word in words[:3])
-    return bool(words) and not words[0].startswith("-") and short
+    """An extension that nothing stands in front of begins with no minus."""
+    return is_route(words) and not words[0].startswith("-")
 
 
 def run_transfer(switch, channel, argument):
     words = words_of(argument)
     if may_be_routed(words):
-        transfer(switch, channel, words[:3])
+        transfer(switch, [channel], words[:3])
     else:
         run_unknown(switch, channel, argument)
 
 
-def transfer(switch, channel, words):
-    """The channel leaves what it is in and, where it lives on, is routed. What is not named stays."""
-    leave(switch, [channel])
-    if channel.live():
-        channel.wait_for(Wait.NOTHING)
-        channel.profile.route(*words)
-        switch.enter(channel, State.CS_ROUTING)
+def transfer(switch, channels, words):
+    """The channels leave what they are in. Who lives on is routed. What is not named stays."""
+    leave(switch, channels)
+    for channel in by_slot(channels):
+        if channel.live():
+            channel.wait_for(Wait.NOTHING)
+            channel.profile.route(*words)
+            switch.enter(channel, State.CS_ROUTING)
 
 
 def run_fifo(switch, channel, argument):

@@ -13,12 +13,16 @@ def by_slot(channels):
     return sorted(channels, key=lambda channel: channel.slot)
 
 
-def hang_up(switch, causes):
-    """Hangs up these channels, each of its cause, and all whom they drag along."""
+def hang_up(switch, causes, survivors=()):
+    """Hangs up these channels, each of its cause, and all whom they drag along.
+
+    What else outlives a bridge in this entry does it with those who outlive the bridges that end here, unless it
+    is dragged along.
+    """
     rounds = rounds_of({channel: cause for channel, cause in causes.items() if channel.live()})
     members = {channel: cause for members_of_round in rounds for channel, cause in members_of_round.items()}
     ended = ended_bridges(rounds)
-    survivors = outcomes_of_survivors(members, ended)
+    survivors = outcomes_of_survivors(members, ended, dict(survivors))
     for bridge, cause in ended.items():
         bridges.end(bridge, cause)
     for channel in by_slot(members):
@@ -68,13 +72,9 @@ def ended_bridges(rounds):
     return ended
 
 
-def outcomes_of_survivors(members, ended):
-    return {
-        leg: bridge.outcome(leg, cause)
-        for bridge, cause in ended.items()
-        for leg in bridge.legs()
-        if leg not in members
-    }
+def outcomes_of_survivors(members, ended, further):
+    outcomes = further | {leg: bridge.outcome(leg, cause) for bridge, cause in ended.items() for leg in bridge.legs()}
+    return {leg: outcome for leg, outcome in outcomes.items() if leg not in members}
 
 
 def tell_bridge_of(switch, channel, ended):
@@ -97,29 +97,35 @@ def hang_up_one(switch, channel, cause):
 
 
 def leave(switch, channels):
-    """These channels leave what they are in. Their legs are hung up in one hangup, of which they may die."""
+    """These channels leave what they are in: their legs first, which are hung up in one hangup, then their bridges.
+
+    Either may take some of them along. Behind that each leaves its queue, and runs and waits for nothing.
+    """
     dialing = [channel for channel in channels if channel.wait is Wait.LEGS]
     legs = [leg.channel for channel in dialing for leg in channel.dialed.living()]
     for channel in dialing:
         channel.wait_for(Wait.NOTHING)
     hang_up(switch, dict.fromkeys(legs, "ORIGINATOR_CANCEL"))
-    for channel in channels:
-        if channel.bridge:
-            leave_bridge(switch, channel)
+    leave_bridges(switch, [channel for channel in channels if channel.live()])
     for channel in by_slot(channels):
         queues.leave(switch, channel)
         channel.drop_actions()
         channel.rest()
 
 
-def leave_bridge(switch, channel):
-    """A bridge that a leg leaves alive ends of NORMAL_CLEARING."""
-    bridge = channel.bridge
-    peer = channel.peer
-    outcome = bridge.outcome(peer, "NORMAL_CLEARING")
-    bridges.end(bridge, "NORMAL_CLEARING")
-    bridges.tell_end(switch, bridge, "NORMAL_CLEARING")
-    if outcome.hangs_up_with:
-        hang_up(switch, {peer: outcome.hangs_up_with})
-    else:
-        bridges.outlive(switch, peer, outcome)
+def leave_bridges(switch, leaving):
+    """Each bridge of which a leg leaves alive ends of NORMAL_CLEARING, in the order of their numbers.
+
+    Behind that, all other legs that are to hang up do it in one hangup, which may drag along those that leave.
+    """
+    cause = "NORMAL_CLEARING"
+    ended = sorted({channel.bridge for channel in leaving if channel.bridge}, key=lambda bridge: bridge.number)
+    outcomes = {
+        leg: bridge.outcome(leg, cause) for bridge in ended for leg in bridge.legs() if leg not in leaving
+    }
+    for bridge in ended:
+        bridges.end(bridge, cause)
+    for bridge in ended:
+        bridges.tell_end(switch, bridge, cause)
+    hung_up = {leg: outcome.hangs_up_with for leg, outcome in outcomes.items() if outcome.hangs_up_with}
+    hang_up(switch, hung_up, {leg: outcome for leg, outcome in outcomes.items() if leg not in hung_up})

@@ -1,12 +1,13 @@
 #!/usr/bin/env python3
 """Random plays of one connection, worked out by the model and compared with what the program prints.
 
-    python3 tests/model/plays.py [--program PROGRAM] [KIND] FROM TO
+    python3 tests/model/plays.py [--program PROGRAM] [--coming] [KIND] FROM TO
 
 plays the seeds from FROM to TO, of one kind or of all. The program is `fsw` at the top of the repository,
-unless another one is named. Compared are the whole output, the status and what stands on standard error. A
-line tells of each kind how many plays agreed. Of the first play that differs all is printed that makes it, and
-the status is 1.
+unless another one is named. With `--coming` the model knows what the program does not know yet, and there
+are kinds of plays that have it. Compared are the whole output, the status and what stands on standard error.
+A line tells of each kind how many plays agreed. Of the first play that differs all is printed that makes it,
+and the status is 1.
 """
 
 import argparse
@@ -19,6 +20,7 @@ from functools import partial
 from itertools import zip_longest
 
 import load
+from coming import COMING_KINDS
 from kinds import KINDS
 from session import Result, Session
 
@@ -37,11 +39,11 @@ class Play:
     expected: Result
 
 
-def made_play(kind, seed):
+def made_play(kind, seed, coming=False):
     """Commands are chosen as the model plays, so that they suit the channels that are there."""
     chooser = kind(seed)
     document = chooser.document()
-    session = Session(document)
+    session = Session(document, coming)
     given = []
 
     def pieces():
@@ -58,8 +60,11 @@ def made_load(seed):
     return Play(("load", *words), "", "", load.printed(*words))
 
 
-# what makes the plays of each kind of a seed
-MAKERS = {name: partial(made_play, kind) for name, kind in KINDS.items()} | {"load": made_load}
+def makers(coming):
+    """What makes the plays of each kind of a seed."""
+    kinds = KINDS | COMING_KINDS if coming else KINDS
+    made = {name: partial(made_play, kind, coming=coming) for name, kind in kinds.items()}
+    return made | {"load": made_load}
 
 
 def printed_by_program(program, play):
@@ -102,18 +107,23 @@ def compare(name, make, seeds, program):
 
 def asked():
     words = argparse.ArgumentParser(description=__doc__, formatter_class=argparse.RawDescriptionHelpFormatter)
-    words.add_argument("kind", nargs="?", choices=MAKERS)
+    words.add_argument("kind", nargs="?", choices=makers(coming=True))
     words.add_argument("first", type=int, metavar="FROM")
     words.add_argument("last", type=int, metavar="TO")
     words.add_argument("--program", default=str(TOP / "fsw"))
-    return words.parse_args()
+    words.add_argument("--coming", action="store_true")
+    asked_for = words.parse_args()
+    if asked_for.kind and asked_for.kind not in makers(asked_for.coming):
+        words.error(f"{asked_for.kind} is still to come")
+    return asked_for
 
 
 def main():
     words = asked()
     seeds = range(words.first, words.last + 1)
-    for name in [words.kind] if words.kind else MAKERS:
-        agreed = compare(name, MAKERS[name], seeds, words.program)
+    made = makers(words.coming)
+    for name in [words.kind] if words.kind else made:
+        agreed = compare(name, made[name], seeds, words.program)
         print(f"{name}: {agreed} of {len(seeds)} agreed", flush=True)
         if agreed < len(seeds):
             return 1

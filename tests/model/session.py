@@ -64,9 +64,9 @@ class Waiting:
 
 
 class Session:
-    def __init__(self, document):
+    def __init__(self, document, coming=False):
         self.journal = Journal(document.journal_limit)
-        self.switch = Switch(document, self.journal)
+        self.switch = Switch(document, self.journal, coming)
         self.stream = Stream()
         self.connection = Connection(self.switch)
         self.waiting = deque()

@@ -32,9 +32,13 @@ class Event:
 
 
 class Switch:
-    """One entry at a time changes it. The entry in hand collects its events, and an answer that was owed."""
+    """One entry at a time changes it. The entry in hand collects its events, and an answer that was owed.
 
-    def __init__(self, document, journal):
+    A switch to which `coming` is said knows what is still to come.
+    """
+
+    def __init__(self, document, journal, coming=False):
+        self.coming = coming
         self.document = document
         self.journal = journal
         self.globals = Variables(OF_GLOBALS, document.global_values)

@@ -14,8 +14,8 @@ from dialing import DialFault, read_dial_string
 from dialplan import Action
 from frames import header_lines, variable_headers
 from hangups import by_slot, hang_up, leave
-from jobs import MOST_JOBS, Dial, Sleep
-from originations import USUAL_SECONDS, Order, Route, originate
+from jobs import MOST_JOBS, Dial, Job, Sleep
+from originations import SECOND, USUAL_SECONDS, Order, Route, originate
 from tables import State, cause_or, words_of
 from variables import LONGEST_NAME, ExpansionTooLong, expand, read_milliseconds, read_seconds, split_pair
 
@@ -69,6 +69,37 @@ def answer(switch, text):
         return f"-USAGE: {asked.usage}\n"
     except Refused as refusal:
         return f"-ERR {refusal}\n"
+
+
+@dataclass(frozen=True)
+class Run:
+    """The task of a job that is to run an api command. The command may go on in the same job."""
+
+    text: str
+
+    def due(self, now):
+        return now
+
+    def work(self, switch, number):
+        job = switch.jobs[number]
+        switch.job_in_hand = number
+        said = answer(switch, self.text)
+        switch.job_in_hand = None
+        if said is not None:
+            switch.jobs.pop(number, None)
+            switch.give_answer(job, said)
+
+
+def headers_of_job(name, text):
+    """By these an event tells of a job that ran the text."""
+    command, behind = first_word(text)
+    return ("Job-UUID", name), ("Job-Command", command), ("Job-Command-Arg", behind.lstrip(" "))
+
+
+def run_in_background(switch, text, name):
+    """A job of this name runs the text as an api command."""
+    number = switch.begin_job(headers_of_job(name, text))
+    switch.jobs[number].task = Run(text)
 
 
 def first_word(text):
@@ -281,6 +312,76 @@ def fsctl(switch, words):
         raise WrongUsage
     switch.shut_down()
     return "+OK\n"
+
+
+@dataclass(frozen=True)
+class HangUp:
+    """A task hangs up the live channel whose identifier its group is then, if there is one."""
+
+    cause: str
+
+    def do(self, switch, group):
+        channel = switch.find(group)
+        if channel:
+            hang_up(switch, {channel: self.cause})
+
+
+@dataclass(frozen=True)
+class RunLater:
+    """A task has a command run by a job in the background, whose name is drawn then."""
+
+    text: str
+
+    def do(self, switch, _group):
+        name = switch.draw_identifier()
+        if len(switch.jobs) == MOST_JOBS:
+            switch.give_answer(Job(headers_of_job(name, self.text)), "-ERR too many jobs\n")
+        else:
+            run_in_background(switch, self.text, name)
+
+
+def read_moment(switch, text):
+    """`+S` is S seconds from now; S alone is so much less the time base, and not before the beginning."""
+    found = re.fullmatch(r"(\+?)([0-9]{1,10})", text)
+    if found is None:
+        raise WrongUsage
+    seconds = int(found.group(2))
+    if found.group(1):
+        return switch.now + seconds * SECOND
+    return max(0, seconds - switch.document.time_base) * SECOND
+
+
+def add_task(switch, moment, group, what):
+    number = switch.tasks.add(moment, group, what)
+    if number is None:
+        raise Refused("too many tasks")
+    return number
+
+
+@command("sched_hangup", "[+]<time> <uuid> [cause]", commands=COMING)
+def sched_hangup(switch, words):
+    time, identifier, *rest = need(words, 2)
+    moment = read_moment(switch, time)
+    channel = find(switch, identifier)
+    cause = cause_or("NORMAL_CLEARING" if rest else "ALLOTTED_TIMEOUT", rest)
+    add_task(switch, moment, channel.identifier, HangUp(cause))
+    return "+OK\n"
+
+
+@command("sched_api", "[+]<time> <group> <command*>", takes_text=True, commands=COMING)
+def sched_api(switch, text):
+    """The command is the rest of the line."""
+    time, group, *_ = need(words_of(text), 3)
+    moment = read_moment(switch, time)
+    _, behind = first_word(text)
+    _, behind = first_word(behind)
+    number = add_task(switch, moment, group, RunLater(behind.lstrip(" ")))
+    return f"+OK Added: {number}\n"
+
+
+@command("sched_del", "<group|number>", commands=COMING)
+def sched_del(switch, words):
+    return f"+OK Deleted: {switch.tasks.delete(need(words, 1)[0])}\n"
 
 
 USAGE_OF_ORIGINATE = "<call url> <exten>|&<app>(<args>) [dialplan] [context] [cid_name] [cid_num] [timeout]"

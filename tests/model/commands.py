@@ -1,7 +1,7 @@
 """A connection: the commands of the event socket that it gives, and the frames that reply to each."""
 
 import re
-from dataclasses import dataclass, replace
+from dataclasses import replace
 
 import api
 from dialplan import Action
@@ -15,25 +15,6 @@ UNKNOWN_COMMAND = "-ERR command not found"
 
 MOST_MESSAGES = 1000
 GIVEN_NAME_OF_JOB = re.compile("[!-~]{1,64}")
-
-
-@dataclass(frozen=True)
-class Run:
-    """The task of a job that is to run an api command. The command may go on in the same job."""
-
-    text: str
-
-    def due(self, now):
-        return now
-
-    def work(self, switch, number):
-        job = switch.jobs[number]
-        switch.job_in_hand = number
-        answer = api.answer(switch, self.text)
-        switch.job_in_hand = None
-        if answer is not None:
-            switch.jobs.pop(number, None)
-            switch.give_answer(job, answer)
 
 
 class Connection:
@@ -82,10 +63,7 @@ class Connection:
             return "-ERR too many jobs"
         given = block.header("Job-UUID") or ""
         name = given if GIVEN_NAME_OF_JOB.fullmatch(given) else self.switch.draw_identifier()
-        command, behind = api.first_word(block.rest)
-        headers = (("Job-UUID", name), ("Job-Command", command), ("Job-Command-Arg", behind.lstrip(" ")))
-        number = self.switch.begin_job(headers)
-        self.switch.jobs[number].task = Run(block.rest)
+        api.run_in_background(self.switch, block.rest, name)
         return f"+OK Job-UUID: {name}\nJob-UUID: {name}"
 
     def sendmsg(self, block):

@@ -2,6 +2,7 @@
 
 from dataclasses import dataclass, field
 
+from hours import hold, minute_at
 from variables import ExpansionTooLong, expand, split_pair
 
 WRITTEN = {
@@ -28,11 +29,17 @@ class Action:
 
 @dataclass(frozen=True)
 class Extension:
-    """Its actions are for calls to just this number. Where it continues, the hunt goes on behind it."""
+    """Its actions are for calls to just this number. Where it continues, the hunt goes on behind it.
+
+    It may have times, as attributes of its condition. Where they do not hold, a call has the other actions that
+    the extension may have for that; without these it is not taken.
+    """
 
     number: str
     actions: tuple
     continues: bool = False
+    times: tuple = ()
+    otherwise: tuple = ()
 
 
 @dataclass
@@ -44,6 +51,8 @@ class Document:
     journal_limit: int = 67108864
     global_values: dict = field(default_factory=dict)
     password: str = USUAL_PASSWORD
+    time_base: int = 0
+    time_offset: int = 0
 
     def written(self):
         inside = [*self._globals(), *self._settings(), *self._dialplan()]
@@ -61,6 +70,10 @@ class Document:
         yield '<configuration name="switch.conf"><settings>'
         yield f'<param name="max-sessions" value="{self.slots}"/>'
         yield f'<param name="journal-limit" value="{self.journal_limit}"/>'
+        if self.time_base != 0:
+            yield f'<param name="time-base" value="{self.time_base}"/>'
+        if self.time_offset != 0:
+            yield f'<param name="time-offset" value="{self.time_offset}"/>'
         yield "</settings></configuration></section>"
 
     def _dialplan(self):
@@ -80,13 +93,22 @@ def attribute(text):
 def written_extension(extension):
     number = attribute(extension.number)
     goes_on = ' continue="true"' if extension.continues else ""
+    times = "".join(f' {field}="{attribute(text)}"' for field, text in extension.times)
     yield f'<extension name="{number}"{goes_on}>'
-    yield f'<condition field="destination_number" expression="^{number}$">'
-    for action in extension.actions:
-        application, data = attribute(action.application), attribute(action.data)
-        inline = ' inline="true"' if action.inline else ""
-        yield f'<action application="{application}" data="{data}"{inline}/>'
+    if extension.otherwise:
+        yield f'<condition field="destination_number" expression="^{number}$"/>'
+        yield f"<condition{times}>"
+    else:
+        yield f'<condition field="destination_number" expression="^{number}$"{times}>'
+    yield from (written_action("action", action) for action in extension.actions)
+    yield from (written_action("anti-action", action) for action in extension.otherwise)
     yield "</condition></extension>"
+
+
+def written_action(element, action):
+    application, data = attribute(action.application), attribute(action.data)
+    inline = ' inline="true"' if action.inline else ""
+    return f'<{element} application="{application}" data="{data}"{inline}/>'
 
 
 def hunt(switch, channel):
@@ -104,7 +126,10 @@ def found_actions(switch, channel):
     for extension in switch.document.contexts.get(channel.profile.context, ()):
         if extension.number != channel.profile.destination_number:
             continue
-        for action in extension.actions:
+        in_time = hold(extension.times, minute_at(switch.document, switch.now))
+        if not in_time and not extension.otherwise:
+            continue
+        for action in extension.actions if in_time else extension.otherwise:
             if action.inline:
                 assign(switch, channel, action.application, expand(action.data, switch.scope(channel)))
             else:

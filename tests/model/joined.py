@@ -66,7 +66,8 @@ class Joined(Kind):
 
     def originate(self):
         bridges = f"&bridge(loopback/{self.number()})"
-        lasting = self.one_of("&park()", "&park()", "&sleep(60000)", bridges, "'&fifo(f out nowait)'", "'&fifo(f in)'")
+        of_queues = ("'&fifo(f out nowait)'", "'&fifo(f in)'")
+        lasting = self.one_of("&park()", "&park()", "&sleep(60000)", bridges, *of_queues)
         return f"bgapi originate {self.braces()}loopback/{self.number()} {lasting}"
 
     def command(self, session):

@@ -19,6 +19,7 @@ from dataclasses import dataclass
 from functools import partial
 from itertools import zip_longest
 
+import hunts
 import load
 from coming import COMING_KINDS
 from kinds import KINDS
@@ -60,11 +61,16 @@ def made_load(seed):
     return Play(("load", *words), "", "", load.printed(*words))
 
 
+def made_hunt(seed):
+    words, document, expected = hunts.made(seed)
+    return Play(("hunt", FILE, *words), document.written(), "", expected)
+
+
 def makers(coming):
     """What makes the plays of each kind of a seed."""
     kinds = KINDS | COMING_KINDS if coming else KINDS
-    made = {name: partial(made_play, kind, coming=coming) for name, kind in kinds.items()}
-    return made | {"load": made_load}
+    made = {name: partial(made_play, kind, coming=coming) for name, kind in kinds.items()} | {"load": made_load}
+    return made | {"hunts": made_hunt} if coming else made
 
 
 def printed_by_program(program, play):

@@ -13,6 +13,7 @@ import sys
 from collections import Counter
 from functools import partial
 
+import hunts
 import load
 from api import COMING, COMMANDS
 from blocks import Stream
@@ -1224,6 +1225,335 @@ def no_rejoining_yet():
         "-ERR Channel already bridged!\n",
         "-USAGE: <uuid> <exten> [dialplan] [context]\n",
     ]
+
+
+def timed_document(times, **settings):
+    """Another call goes by the times of an extension, and tells whether they hold."""
+    in_time, otherwise = actions("log open; answer"), actions("log closed; answer")
+    told = Extension("1", in_time, times=tuple(times.items()), otherwise=otherwise)
+    return Document({"default": [told]}, **settings)
+
+
+def is_open(times, **settings):
+    """Whether the times hold where the clock begins."""
+    printed = hunts.printed(timed_document(times, **settings), "default", "1").output
+    return {"log open\nanswer \n": True, "log closed\nanswer \n": False}[printed]
+
+
+@row("a condition with times", COMING_ROWS)
+def times_of_condition():
+    times = {"wday": "2-6", "hour": "9-17"}
+    bases = {0: False, 32400: True, 205200: False}
+    yield {base: is_open(times, time_base=base) for base in bases}, bases
+
+
+@row("what minutes are called", COMING_ROWS)
+def names_of_minutes():
+    minutes = {
+        (0, 0): {"hour": "0", "minute": "0", "mon": "1", "mday": "1", "wday": "thu"},
+        (0, -1): {"hour": "23", "minute": "59", "mon": "12", "mday": "31", "wday": "wed"},
+        (0, -1439): {"hour": "0", "minute": "1", "mon": "12", "mday": "31", "wday": "4"},
+        (0, 1439): {"hour": "23", "minute": "59", "mon": "1", "mday": "1", "wday": "5"},
+        (951782400, 0): {"hour": "0", "minute": "0", "mon": "2", "mday": "29", "wday": "tue"},
+        (951782400, 1439): {"hour": "23", "minute": "59", "mon": "2", "mday": "29", "wday": "tue"},
+        (4102444740, 0): {"hour": "23", "minute": "59", "mon": "12", "mday": "31", "wday": "thu"},
+        (4102444740, 1): {"hour": "0", "minute": "0", "mon": "1", "mday": "1", "wday": "fri"},
+        (253369999980, 0): {"hour": "3", "minute": "33", "mon": "12", "mday": "23", "wday": "wed"},
+    }
+    for (base, offset), names in minutes.items():
+        for field, value in names.items():
+            settings = {"time_base": base, "time_offset": offset}
+            held = [one for one in ALL_VALUES[field] if is_open({field: str(one)}, **settings)]
+            number = DAYS.index(value) + 1 if value in DAYS else int(value)
+            yield (base, offset, field, held), (base, offset, field, [number])
+            yield is_open({field: value}, **settings), True
+
+
+DAYS = ("sun", "mon", "tue", "wed", "thu", "fri", "sat")
+ALL_VALUES = {"hour": range(24), "minute": range(60), "mon": range(1, 13), "mday": range(1, 32), "wday": range(1, 8)}
+
+
+@row("lists and ranges of values", COMING_ROWS)
+def lists_of_values():
+    hours = {
+        "3": {3}, "003": {3}, "3,5": {3, 5}, "3-5": {3, 4, 5}, "22-1": {22, 23, 0, 1}, "5-5": {5}, "23-0": {23, 0},
+        "1-0": set(range(24)), "0-23": set(range(24)), "3,3-4,00000000000000000007": {3, 4, 7},
+        "1-2,22-23": {1, 2, 22, 23},
+    }
+    for text, held in hours.items():
+        yield {hour for hour in range(24) if is_open({"hour": text}, time_base=hour * 3600)}, held
+    days = {
+        "sun": {1}, "sat-sun": {7, 1}, "sun-sat": {1, 2, 3, 4, 5, 6, 7}, "6-mon": {6, 7, 1, 2},
+        "mon,3,fri-6": {2, 3, 6},
+    }
+    for text, held in days.items():
+        of_days = {day for day in range(1, 8) if is_open({"wday": text}, time_base=(day + 2) % 7 * 86400)}
+        yield (text, of_days), (text, held)
+    yield is_open({"hour": "0", "minute": "1"}, time_base=60), True
+    yield [is_open({"hour": hour, "minute": minute}) for hour, minute in (("0", "1"), ("1", "0"), ("0", "0"))], [
+        False, False, True
+    ]
+    yield is_open({"Hour": "99"}), True
+
+
+@row("what a condition may not have, and settings out of their range", COMING_ROWS)
+def faults_of_times():
+    malformed = {
+        "hour": ("24", "", "1-", "-1", "1-2-3", "1,,2", ",", " 1", "1 ", "x", "+1", "0" * 20 + "1", "sun"),
+        "minute": ("60",), "mon": ("0", "13", "jan"), "mday": ("0", "32"),
+        "wday": ("0", "8", "Sun", "sunday", "sun-"),
+    }
+    for field, texts in malformed.items():
+        for text in texts:
+            yield (field, text, refused({field: text})), (field, text, ("BadAttribute", f'{field}="{text}"'))
+    others = ("year", "yday", "mweek", "week", "minute-of-day", "time-of-day", "date-time", "tz-offset", "dst")
+    for field in others:
+        yield refused({field: "1"}), ("TimeAttribute", f'{field}="1"')
+    yield refused({"hour": "1", "minute": "60", "year": "1"}), ("BadAttribute", 'minute="60"')
+    yield refused({"year": "1", "hour": "99"}), ("TimeAttribute", 'year="1"')
+    settings = {"time-base": ("61", "x", "-60", "", "253370000040"), "time-offset": ("1440", "-1440", "x")}
+    for setting, texts in settings.items():
+        for text in texts:
+            fault = refused({"hour": "99"}, **{setting.replace("-", "_"): text})
+            yield fault, ("BadSetting", f'<param name="{setting}" value="{text}"/>')
+
+
+def refused(times, **settings):
+    """The fault of a document, and what stands at its place."""
+    document = timed_document(times, **settings)
+    printed = hunts.printed(document, "default", "1")
+    kind, place = re.fullmatch("fsw: (.*) at (.*)", printed.error).groups()
+    text = document.written()[int(place) :]
+    return kind, re.match('<[^>]*>|[^=]*="[^"]*"', text).group()
+
+
+@row("an extension out of its times is passed over, and its other actions take it", COMING_ROWS)
+def out_of_times():
+    never, always = (("hour", "1"),), (("hour", "0"),)
+    last = Extension("1", actions("log last"))
+    cases = (
+        ((Extension("1", actions("log a"), times=never), last), "log last\n"),
+        ((Extension("1", actions("log a"), times=always), last), "log a\n"),
+        ((Extension("1", actions("log a"), True, always), last), "log a\nlog last\n"),
+        ((Extension("1", actions("log a"), True, never), last), "log last\n"),
+        ((Extension("1", actions("log a"), False, never, actions("log b")), last), "log b\n"),
+        ((Extension("1", actions("log a"), True, never, actions("log b")), last), "log b\nlog last\n"),
+        ((Extension("1", actions("log a"), False, always, actions("log b")), last), "log a\n"),
+        ((Extension("2", actions("log a"), False, never, actions("log b")), last), "log last\n"),
+        ((Extension("1", (), times=always), last), "NO_ROUTE_DESTINATION\n"),
+        ((Extension("1", (), times=never), last), "log last\n"),
+        ((Extension("1", (), False, always, actions("log b")), last), "NO_ROUTE_DESTINATION\n"),
+    )
+    for extensions, expected in cases:
+        yield hunts.printed(Document({"default": list(extensions)}), "default", "1").output, expected
+
+
+@row("inline actions act in their times, and others where these do not hold", COMING_ROWS)
+def inline_by_time():
+    puts = [Action("set", f"v={one}", inline=True) for one in "ab"]
+    made = [
+        Extension("1", (puts[0],), True, (("minute", "0"),), (puts[1],)),
+        Extension("1", actions("answer; log got ${v}; park")),
+    ]
+    for offset, expected in ((0, "got a"), (1, "got b"), (60, "got a")):
+        document = Document({"default": made}, time_offset=offset)
+        said = coming("event plain CHANNEL_EXECUTE", call("1"), document=document)
+        yield re.findall("Application-Data: (.*)", said.result.output), [expected.replace(" ", "%20")]
+
+
+@row("the clock goes on, and with it the times", COMING_ROWS)
+def times_go_on():
+    document = timed_document({"wday": "fri", "hour": "0"}, time_base=86340)
+    lines = (call("1"), "api msleep 59999", call("1"), "api msleep 1", call("1"), "api msleep 3600000", call("1"))
+    said = coming("event plain CHANNEL_EXECUTE", "filter Application log", *lines, document=document)
+    yield re.findall("Application-Data: (.*)", said.result.output), ["closed", "closed", "open", "closed"]
+
+
+@row("behind the last year no time holds", COMING_ROWS)
+def behind_last_year():
+    document = timed_document({"hour": "0-23"}, time_base=253369999980, time_offset=1439)
+    hours = ["api msleep 3600000"] * 188
+    lines = (*hours, "api msleep 1620000", call("1"), "api msleep 59999", call("1"), "api msleep 1", call("1"))
+    said = coming("event plain CHANNEL_EXECUTE", "filter Application log", *lines, document=document)
+    yield re.findall("Application-Data: (.*)", said.result.output), ["open", "open", "closed"]
+    untimed = Document({"default": [Extension("1", actions("answer; park"))]}, time_base=253369999980)
+    said = coming(*hours, *["api msleep 3600000"] * 30, call("1"), document=untimed)
+    yield said.bodies()[-1], f"+OK {FIRST}\n"
+
+
+def jobs_told(played):
+    """The bodies of BACKGROUND_JOB, and of the answers of api commands, in their order."""
+    return [body.partition("\n\n")[2] if body.startswith("Event") else body for body in played.told()]
+
+
+@row("tasks are done in the order of their moments", COMING_ROWS)
+def order_of_tasks():
+    tasks = ("api sched_api +2 g echo two", "api sched_api +1 g echo one")
+    said = coming("event plain BACKGROUND_JOB", *tasks, "api msleep 3000")
+    yield jobs_told(said)[3:], ["+OK Added: 1\n", "+OK Added: 2\n", "one", "two", "+OK\n"]
+    moments = re.findall("Event-Date-Timestamp: (.*)", said.result.output)
+    yield (moments, said.session.switch.now), (["1000000", "2000000"], 3000000)
+    same = [f"api sched_api +1 g echo {one}" for one in "abc"]
+    said = coming("event plain BACKGROUND_JOB", *same, "api sched_api +0 g echo first", "api msleep 1000")
+    yield jobs_told(said)[3:], [*(f"+OK Added: {number}\n" for number in (1, 2, 3, 4)), "first", "+OK\n", *"abc"]
+
+
+@row("a channel is hung up at a moment, unless the task is deleted", COMING_ROWS)
+def hung_up_later():
+    begin = (CALL, "api sched_hangup +1 A")
+    yield coming(*begin, "api msleep 2000", "api uuid_exists A").bodies()[1:], ["+OK\n", "+OK\n", "false"]
+    kept = coming(*begin, "api sched_del A", "api msleep 2000", "api uuid_exists A")
+    yield kept.bodies()[1:], ["+OK\n", "+OK Deleted: 1\n", "+OK\n", "true"]
+    causes = {"": "ALLOTTED_TIMEOUT", " USER_BUSY x": "USER_BUSY"} | dict.fromkeys((" frob", " 17"), "NORMAL_CLEARING")
+    for word, cause in causes.items():
+        said = coming(CALL, f"api sched_hangup +1 A{word}", "api msleep 1000")
+        yield (said.session.hangups, said.session.switch.now), ({cause: 2}, 1000000)
+    said = coming(CALL, "api sched_hangup +0 A", "api uuid_exists A")
+    yield (said.bodies()[1:], said.session.hangups), (["+OK\n", "false"], {"ALLOTTED_TIMEOUT": 2})
+
+
+@row("a channel that is gone is not hung up, and one of its name is in its place", COMING_ROWS)
+def hung_up_by_name():
+    begin = (CALL, "api sched_hangup +2 A", "api uuid_kill A", "api msleep 1000")
+    said = coming(*begin, "event plain ALL", "api msleep 2000")
+    yield events(said), []
+    said = coming(*begin, CALL, "api msleep 2000", "api uuid_exists A")
+    yield (said.bodies()[-1], said.session.hangups), ("false", {"NORMAL_CLEARING": 2, "ALLOTTED_TIMEOUT": 2})
+
+
+@row("how times are said", COMING_ROWS)
+def times_said():
+    begin, later = ("event plain BACKGROUND_JOB", "api msleep 10000"), Document({}, time_base=60)
+    moments = {"+0": 10, "+5": 15, "+007": 17, "130": 70, "75": 15, "70": 10, "60": 10, "3": 10, "0000000071": 11}
+    for time, expected in moments.items():
+        said = coming(*begin, f"api sched_api {time} g echo", "api msleep 100000", document=later)
+        yield re.findall("Event-Date-Timestamp: (.*)", said.result.output), [f"{expected}000000"]
+    far = coming("api sched_api +9999999999 g echo", "api sched_api 9999999999 g echo", document=later)
+    yield [task.moment for task in far.session.switch.tasks.waiting], [9999999939000000, 9999999999000000]
+    for time in ("", "+", "++1", "-1", "1s", "x", "12345678901", "+12345678901", "+1.5", "1+"):
+        odd = (f"api sched_api {time} g echo x", CALL, f"api sched_hangup {time} A x")
+        said = coming(*odd, "api sched_api +1 g echo")
+        usage = "-USAGE: [+]<time> <group> <command*>\n", "-USAGE: [+]<time> <uuid> [cause]\n"
+        yield (time, *said.bodies()), (time, usage[0], "+OK A\n", usage[1], "+OK Added: 1\n")
+
+
+@row("usages of what begins and deletes tasks, and what is missed first", COMING_ROWS)
+def usages_of_tasks():
+    expected = {
+        "sched_hangup": "[+]<time> <uuid> [cause]",
+        "sched_api": "[+]<time> <group> <command*>",
+        "sched_del": "<group|number>",
+    }
+    yield {name: COMING[name].usage for name in expected}, expected
+    for line in ("sched_hangup", "sched_hangup +1", "sched_hangup x A", "sched_api", "sched_api +1", "sched_api +1 g",
+                 "sched_api +1 g  ", "sched_del", "sched_del "):
+        yield coming(CALL, f"api {line}").bodies()[1], f"-USAGE: {expected[line.split(' ')[0]]}\n"
+    said = coming("api sched_hangup +1 A", CALL, "api sched_hangup +1 a", "api sched_api  +1   g   echo  x ")
+    yield said.bodies(), [NO_CHANNEL, "+OK A\n", NO_CHANNEL, "+OK Added: 1\n"]
+    yield said.session.switch.tasks.waiting[0].what.text, "echo  x "
+
+
+@row("tasks are deleted by their group, by their number, and by both", COMING_ROWS)
+def deleted_tasks():
+    groups = ("2", "g", "g", "h", "2")
+    begin = (*(f"api sched_api +1 {group} echo {group}" for group in groups), "event plain BACKGROUND_JOB")
+    keys = {
+        "g": (2, "22h"), "2": (3, "gh"), "4": (1, "2gg2"), "004": (1, "2gg2"), "6": (0, "2ggh2"), "G": (0, "2ggh2"),
+        "h x": (1, "2gg2"), "0": (0, "2ggh2"), "1": (1, "ggh2"), "+1": (0, "2ggh2"),
+    }
+    for key, (count, kept) in keys.items():
+        said = coming(*begin, f"api sched_del {key}", "api msleep 2000")
+        done = jobs_told(said)[-1 - len(kept) : -1]
+        yield (key, said.bodies()[5], sorted(done)), (key, f"+OK Deleted: {count}\n", sorted(kept))
+    said = coming(CALL, "api sched_hangup +1 A", "api sched_api +1 g echo", "api sched_del A", "api sched_del 2")
+    yield said.bodies()[2:], ["+OK Added: 2\n", "+OK Deleted: 1\n", "+OK Deleted: 1\n"]
+
+
+@row("1,024 tasks may be there, and numbers are given once", COMING_ROWS)
+def many_tasks():
+    tasks = [f"api sched_api +{1 + number % 2} g{number % 2} echo" for number in range(1024)]
+    lines = (CALL, "api sched_api +1 g echo", "api sched_hangup +1 A", "api sched_hangup +1 B", "api sched_api +1 g",
+             "api sched_del g1", "api sched_api +1 g echo", "api sched_hangup +1 A", "api sched_api +1 g echo")
+    said = coming(*tasks, *lines).bodies()
+    yield said[1023:], [
+        "+OK Added: 1024\n", "+OK A\n", "-ERR too many tasks\n", "-ERR too many tasks\n", NO_CHANNEL,
+        "-USAGE: [+]<time> <group> <command*>\n", "+OK Deleted: 512\n", "+OK Added: 1025\n", "+OK\n",
+        "+OK Added: 1027\n",
+    ]
+
+
+@row("a task runs its command as a job in the background, whose name is drawn then", COMING_ROWS)
+def task_as_job():
+    begin = ("event plain BACKGROUND_JOB", "api sched_api +1 g msleep  500", "api create_uuid")
+    said = coming(*begin, "api msleep 2000", "api create_uuid")
+    yield said.bodies()[1:], [FIRST, "+OK\n", identifier(3)]
+    yield events(said), [
+        f"Event-Name: BACKGROUND_JOB\nCore-UUID: {identifier(0)}\nEvent-Sequence: 1\nEvent-Date-Timestamp: 1500000\n"
+        f"Job-UUID: {SECOND}\nJob-Command: msleep\nJob-Command-Arg: 500\nContent-Length: 4\n\n+OK\n"
+    ]
+    said = coming("event plain BACKGROUND_JOB", "api sched_api +1 g sched_api +1 h echo inner", "api msleep 3000")
+    yield jobs_told(said)[3:], ["+OK Added: 1\n", "+OK Added: 2\n", "inner", "+OK\n"]
+    said = coming("event plain BACKGROUND_JOB", "bgapi sched_api +0 g nosuch", "bgapi sched_del g")
+    yield [body for body in jobs_told(said) if "UUID" not in body][3:], [
+        "+OK Added: 1\n", "-ERR nosuch Command not found!\n", "+OK Deleted: 0\n"
+    ]
+
+
+@row("a command of a task finds 1,024 jobs", COMING_ROWS)
+def task_without_job():
+    sleeps = ["bgapi msleep 5000\nJob-UUID: sleeps"] * 1023
+    tasks = [f"api sched_api +1 g echo {one}" for one in "ab"]
+    watched = "event plain BACKGROUND_JOB"
+    filters = "filter Job-Command echo"
+    said = coming(watched, *sleeps, *tasks, filters, "api msleep 1000", "api create_uuid")
+    told = [re.search("Job-UUID: (.*)\n.*\n.*Arg: (.*)\n.*\n\n(.*)", event).groups() for event in events(said)]
+    yield told, [(FIRST, "a", "-ERR too many jobs"), (SECOND, "b", "-ERR too many jobs")]
+    yield said.bodies()[-1], identifier(3)
+    said = coming(watched, *sleeps[1:], *tasks, filters, "api msleep 1000")
+    told = [re.search("Arg: (.*)\n.*\n\n(.*)", event).groups() for event in events(said)]
+    yield told, [("b", "-ERR too many jobs"), ("a", "a")]
+
+
+@row("channels come before tasks, and tasks before jobs", COMING_ROWS)
+def tasks_in_between():
+    watched = "event plain CHANNEL_HANGUP CHANNEL_DESTROY BACKGROUND_JOB"
+    tasks = ("api sched_api +1 g echo", "api sched_hangup +1 A", "api sched_api +1 g uuid_exists A")
+    said = coming(watched, "bgapi msleep 1000", CALL, *tasks, "api msleep 1000")
+    yield named(*events(said)), ["CHANNEL_HANGUP"] * 2 + ["CHANNEL_DESTROY"] * 2 + ["BACKGROUND_JOB"] * 3
+    yield re.findall("Job-Command: (.*)", said.result.output), ["msleep", "echo", "uuid_exists"]
+    wakes = "bgapi originate {origination_uuid=B}loopback/ans &sleep(1000)"
+    watched = "event plain CHANNEL_EXECUTE_COMPLETE BACKGROUND_JOB"
+    said = coming(wakes, watched, "api sched_api +1 g echo", "api msleep 1000")
+    yield named(*events(said)), ["CHANNEL_EXECUTE_COMPLETE", "BACKGROUND_JOB"]
+
+
+@row("while nothing is owed no moment comes, and a shutdown drops all tasks", COMING_ROWS)
+def tasks_wait_and_go():
+    said = coming("event plain ALL", "api sched_api +1 g echo", "api echo x", "api echo y")
+    yield (events(said), len(said.session.switch.tasks.waiting)), ([], 1)
+    said = coming("event plain ALL", "api sched_api +1 g echo", "api fsctl shutdown")
+    yield (named(*events(said)), said.session.switch.tasks.waiting), (["SHUTDOWN"], [])
+    tasks = ("api sched_api +1 g fsctl shutdown", "api sched_api +1 g echo")
+    said = coming("event plain ALL", *tasks, "api msleep 5000")
+    yield named(*events(said)), ["SHUTDOWN", "BACKGROUND_JOB"]
+    yield said.told()[-2:], ["-ERR SYSTEM_SHUTDOWN\n", NOTICE]
+
+
+@row("a command that adds itself again and again, at one moment or by the second", COMING_ROWS)
+def endless_tasks():
+    document = Document({}, global_values={"again": "sched_api +0 g expand ${again}"})
+    said = coming("api expand ${again}", document=document)
+    yield (said.bodies(), *said.ended()), ([], 9, "fsw: runaway 100000")
+    document = Document({}, global_values={"again": "sched_api +1 g expand ${again}"})
+    said = coming("api expand ${again}", "api msleep 10000", "api sched_del g", document=document)
+    yield said.bodies(), ["+OK Added: 1\n", "+OK\n", "+OK Deleted: 1\n"]
+    yield said.session.switch.tasks.added, 11
+
+
+@row("the model of today knows no tasks", COMING_ROWS)
+def no_tasks_yet():
+    names = ("sched_api", "sched_hangup", "sched_del")
+    yield answers(*(f"{name} +1 g echo" for name in names)), [f"-ERR {name} Command not found!\n" for name in names]
 
 
 def main():

@@ -11,6 +11,7 @@ from jobs import Job
 from queues import Queues, take
 from races import conclude
 from tables import State, identifier
+from tasks import Tasks
 from variables import OF_GLOBALS, ExpansionTooLong, Variables
 
 MOST_ROUTED = 70
@@ -44,6 +45,7 @@ class Switch:
         self.globals = Variables(OF_GLOBALS, document.global_values)
         self.channels = {}
         self.queues = Queues()
+        self.tasks = Tasks()
         self.jobs = {}
         self.now = 0
         self.entry = 0
@@ -112,12 +114,13 @@ class Switch:
         return any(job.owed() for job in self.jobs.values())
 
     def shut_down(self):
-        """All live channels are hung up in one hangup. No job is left, and what was owed is answered."""
+        """All live channels are hung up in one hangup. No job and no task is left, and what was owed is answered."""
         hang_up(self, dict.fromkeys(self.live_channels(), "SYSTEM_SHUTDOWN"))
         self.tell("SHUTDOWN", further=[("Event-Info", "System Shutting Down")])
         if self.owes():
             self.answer_owed = "-ERR SYSTEM_SHUTDOWN\n"
         self.jobs = {}
+        self.tasks = Tasks()
         self.stopping = True
 
     def enter(self, channel, state):
@@ -169,11 +172,13 @@ class Switch:
         return channel.dialed.due(self.now) if channel.wait is Wait.LEGS else None
 
     def moments(self):
-        """The moments at which slots and then jobs have something to do, each with what does it."""
+        """The moments at which slots, tasks and then jobs have something to do, each with what does it."""
         for channel in by_slot(self.channels.values()):
             moment = self.due(channel)
             if moment is not None:
                 yield moment, partial(work, self, channel)
+        if self.tasks.waiting:
+            yield self.tasks.due(self.now), partial(self.tasks.work, self)
         for number, job in self.jobs.items():
             yield job.task.due(self.now), partial(job.task.work, self, number)
 

@@ -2,6 +2,7 @@
 
 from hourly import Hourly
 from joined import Joined
+from json_events import Json
 from scheduled import Scheduled
 
-COMING_KINDS = {kind.__name__.lower(): kind for kind in (Joined, Hourly, Scheduled)}
+COMING_KINDS = {kind.__name__.lower(): kind for kind in (Joined, Hourly, Scheduled, Json)}

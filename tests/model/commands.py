@@ -87,15 +87,18 @@ class Connection:
         return "+OK"
 
     def event(self, block):
+        """All events are told in the form of the last of these that was accepted. JSON is still to come."""
         words = words_of(block.rest)
-        if words[:1] in (["json"], ["xml"]):
+        form = words[0] if words[:1] in (["json"], ["xml"]) else "plain"
+        if form == "xml" or form == "json" and not self.switch.coming:
             return "-ERR event format not supported"
         named = known_names(words)
         if not named.events:
             return NO_KEYWORDS
-        self.subscription = replace(self.subscription, names=self.subscription.names.with_more(named))
+        names = self.subscription.names.with_more(named)
+        self.subscription = replace(self.subscription, names=names, form=form)
         self.listening = True
-        return "+OK event listener enabled plain"
+        return f"+OK event listener enabled {form}"
 
     def nixevent(self, block):
         named = known_names(words_of(block.rest))

@@ -6,6 +6,10 @@ from tables import EVENTS, SWITCH_IDENTIFIER
 
 ESCAPED = set(' "#%&+:;<=>?@[\\]^`{|}')
 
+ESCAPED_IN_STRINGS = {chr(code): f"\\u{code:04x}" for code in range(32)} | {
+    '"': '\\"', "\\": "\\\\", "\b": "\\b", "\f": "\\f", "\n": "\\n", "\r": "\\r", "\t": "\\t",
+}
+
 AUTH_REQUEST = "Content-Type: auth/request\n\n"
 
 NOTICE = (
@@ -59,10 +63,38 @@ def header_lines(headers):
     return "".join(f"{name}: {escape(value)}\n" for name, value in with_values(headers))
 
 
-def event_frame(headers, body=""):
+def event_frame(headers, body="", form="plain"):
+    text = FORMS[form](headers, body)
+    return f"Content-Length: {len(text)}\nContent-Type: text/event-{form}\n\n{text}"
+
+
+def plain_text(headers, body):
     length = f"Content-Length: {len(body)}\n" if body else ""
-    text = f"{header_lines(headers)}{length}\n{body}"
-    return f"Content-Length: {len(text)}\nContent-Type: text/event-plain\n\n{text}"
+    return f"{header_lines(headers)}{length}\n{body}"
+
+
+def json_text(headers, body):
+    """One object, its names in the order of their bytes. A body is one value more, and its length is another."""
+    of_body = [("Content-Length", str(len(body))), ("_body", body)] if body else []
+    pairs = sorted([*with_values(headers), *of_body])
+    return "{" + ",".join(f"{quoted(name)}:{quoted(as_unicode(value))}" for name, value in pairs) + "}"
+
+
+def as_unicode(text):
+    """What is no UTF-8 is escaped as in a plain event."""
+    try:
+        text.encode("latin-1").decode("utf-8")
+    except UnicodeDecodeError:
+        return escape(text)
+    return text
+
+
+def quoted(text):
+    """A string of JSON, in which a quote, a backslash and whatever is below the space are escaped."""
+    return '"' + "".join(ESCAPED_IN_STRINGS.get(character, character) for character in text) + '"'
+
+
+FORMS = {"plain": plain_text, "json": json_text}
 
 
 @dataclass(frozen=True)
@@ -104,10 +136,11 @@ def known_names(words):
 
 @dataclass(frozen=True)
 class Subscription:
-    """What a connection is sent, and its filters, of which one is enough."""
+    """What a connection is sent, and in which form, and its filters, of which one is enough."""
 
     names: Names = Names()
     filters: tuple = ()
+    form: str = "plain"
 
     def lets_through(self, headers):
         return not self.filters or any(wanted in headers for wanted in self.filters)

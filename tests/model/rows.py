@@ -8,10 +8,12 @@ row that does not agree, what it expects and what the model says are printed, an
 """
 
 import argparse
+import json
 import re
 import sys
 from collections import Counter
 from functools import partial
+from urllib.parse import unquote_to_bytes
 
 import hunts
 import load
@@ -1404,7 +1406,8 @@ def hung_up_later():
     yield coming(*begin, "api msleep 2000", "api uuid_exists A").bodies()[1:], ["+OK\n", "+OK\n", "false"]
     kept = coming(*begin, "api sched_del A", "api msleep 2000", "api uuid_exists A")
     yield kept.bodies()[1:], ["+OK\n", "+OK Deleted: 1\n", "+OK\n", "true"]
-    causes = {"": "ALLOTTED_TIMEOUT", " USER_BUSY x": "USER_BUSY"} | dict.fromkeys((" frob", " 17"), "NORMAL_CLEARING")
+    causes = {"": "ALLOTTED_TIMEOUT", " USER_BUSY x": "USER_BUSY"}
+    causes |= dict.fromkeys((" frob", " 17"), "NORMAL_CLEARING")
     for word, cause in causes.items():
         said = coming(CALL, f"api sched_hangup +1 A{word}", "api msleep 1000")
         yield (said.session.hangups, said.session.switch.now), ({cause: 2}, 1000000)
@@ -1554,6 +1557,145 @@ def endless_tasks():
 def no_tasks_yet():
     names = ("sched_api", "sched_hangup", "sched_del")
     yield answers(*(f"{name} +1 g echo" for name in names)), [f"-ERR {name} Command not found!\n" for name in names]
+
+
+LISTENS_TO_JSON = "+OK event listener enabled json"
+NO_FORMAT, NO_KEYWORDS = "-ERR event format not supported", "-ERR no keywords supplied"
+
+JSON_OF_JOB = (
+    f'{{"Content-Length":"3","Core-UUID":"{identifier(0)}","Event-Date-Timestamp":"0","Event-Name":"BACKGROUND_JOB",'
+    f'"Event-Sequence":"1","Job-Command":"echo","Job-Command-Arg":"a b","Job-UUID":"{FIRST}","_body":"a b"}}'
+)
+
+
+@row("an event as JSON, and plain again", COMING_ROWS)
+def event_as_json():
+    again = ("event plain CHANNEL_HANGUP", "bgapi echo a b", "event xml ALL")
+    said = coming("event json BACKGROUND_JOB", "bgapi echo a b", *again)
+    plain = JOB_ENDED.replace("Event-Sequence: 1", "Event-Sequence: 2").replace(FIRST, SECOND)
+    began = [f"+OK Job-UUID: {name}" for name in (FIRST, SECOND)]
+    yield said.told()[2:], [LISTENS_TO_JSON, began[0], JSON_OF_JOB, LISTENS, began[1], plain, NO_FORMAT]
+    heads = [headers for headers, _ in frames(said.result.output) if "event" in headers["Content-Type"]]
+    yield heads, [
+        {"Content-Length": "260", "Content-Type": "text/event-json"},
+        {"Content-Length": "227", "Content-Type": "text/event-plain"},
+    ]
+
+
+@row("a call that is hung up, as JSON", COMING_ROWS)
+def hangup_as_json():
+    said = coming("event json CHANNEL_HANGUP", "api originate loopback/busy &park()")
+    yield events(said)[0], (
+        '{"Answer-State":"hangup","Call-Direction":"outbound","Caller-Context":"default",'
+        '"Caller-Destination-Number":"busy","Channel-Name":"loopback/busy-a","Channel-State":"CS_HANGUP",'
+        f'"Channel-State-Number":"10","Core-UUID":"{identifier(0)}","Event-Date-Timestamp":"0",'
+        f'"Event-Name":"CHANNEL_HANGUP","Event-Sequence":"9","Hangup-Cause":"USER_BUSY","Unique-ID":"{FIRST}"}}'
+    )
+    yield len(events(said)), 2
+
+
+@row("which form is taken, and when", COMING_ROWS)
+def forms():
+    lines = {
+        "event BACKGROUND_JOB": (LISTENS, "plain"),
+        "event json": (NO_KEYWORDS, "plain"),
+        "event json frob": (NO_KEYWORDS, "plain"),
+        "event json CHANNEL_HANGUP": (LISTENS_TO_JSON, "json"),
+        "event xml": (NO_FORMAT, "json"),
+        "event xml BACKGROUND_JOB": (NO_FORMAT, "json"),
+        "event frob": (NO_KEYWORDS, "json"),
+        "nixevent CHANNEL_HANGUP": ("+OK event listener disabled", "json"),
+        "event plain json CHANNEL_HANGUP": (LISTENS, "plain"),
+        "event JSON CHANNEL_HANGUP": (LISTENS, "plain"),
+        "event  json  plain xml CHANNEL_HANGUP": (LISTENS_TO_JSON, "json"),
+        "event CHANNEL_HANGUP json": (LISTENS, "plain"),
+        "event json CUSTOM": (LISTENS_TO_JSON, "json"),
+        "event CUSTOM json": (LISTENS, "plain"),
+        "event json ALL": (LISTENS_TO_JSON, "json"),
+    }
+    said = coming(*(part for line in lines for part in (line, "bgapi echo x")))
+    replies = [text for text in said.told()[2:] if text.startswith(("+OK event", "-ERR"))]
+    types = [headers["Content-Type"] for headers, _ in frames(said.result.output)]
+    told = [name for name in types if "event" in name]
+    yield replies, [reply for reply, _ in lines.values()]
+    yield told, [f"text/event-{form}" for _, form in lines.values()]
+    said = coming("event json ALL", "noevents", "bgapi echo x", "event BACKGROUND_JOB", "bgapi echo x")
+    yield len(events(said)), 1
+    yield "text/event-plain" in said.result.output, True
+
+
+@row("what is escaped in JSON", COMING_ROWS)
+def escaped_in_json():
+    texts = {
+        'q"q': 'q\\"q', "b\\b": "b\\\\b", "t\tt": "t\\tt", "\x01\x1f\x0b": "\\u0001\\u001f\\u000b",
+        "\b\f": "\\b\\f", "/%:=": "/%:=", "\x7f": "\x7f", "\xc3\xa9": "\xc3\xa9",
+        "\xf0\x9f\x98\x80": "\xf0\x9f\x98\x80", "a\xffb c": "a%FFb%20c", "\xc3": "%C3", "\xc0\xaf": "%C0%AF",
+        "\xed\xa0\x80": "%ED%A0%80", '\xff"': "%FF%22", "\xc3\xa9\xff": "%C3%A9%FF",
+    }
+    for text, written in texts.items():
+        said = coming("event json BACKGROUND_JOB", f"bgapi echo {text}")
+        told = re.search('"Job-Command-Arg":"(.*)","Job-UUID".*"_body":"(.*)"}', events(said)[0])
+        yield told.groups(), (written, written)
+        yield f'"Content-Length":"{len(text)}"' in events(said)[0], True
+    said = coming("event json BACKGROUND_JOB", "bgapi nosuch  \xff", "bgapi echo", "bgapi")
+    names = "Content-Length|_body|Job-Command|Job-Command-Arg"
+    yield [re.findall(f'"({names})":"([^"]*)"', event) for event in events(said)], [
+        [("Content-Length", "31"), ("Job-Command", "nosuch"), ("Job-Command-Arg", "%FF"),
+         ("_body", "-ERR nosuch Command not found!\\n")],
+        [("Job-Command", "echo")],
+        [("Content-Length", "25"), ("_body", "-ERR  Command not found!\\n")],
+    ]
+
+
+@row("JSON has the headers of plain events, unescaped, and what is no UTF-8 alone is escaped", COMING_ROWS)
+def same_as_plain():
+    lines = (
+        "api originate {origination_uuid=A,a%b='x y',\xc3\xa9=\xc3\xa9,q=\xff}loopback/goon &park()", call("goon"),
+        "sendmsg A\ncall-command: execute\nexecute-app-name: log\nContent-Length: 5\n\na\n\"b\n", "bgapi uuid_dump A",
+        "api msleep 3000", "api hupall", call("q"), call("n"), "bgapi fsctl shutdown",
+    )
+    both = [Document({"default": usual_document().contexts["default"] + queue_document().contexts["default"]})] * 2
+    plain, as_json = (
+        coming(f"event {form} ALL", *lines, document=document) for form, document in zip(("plain", "json"), both)
+    )
+    yield len(events(plain)) > 100, True
+    for one, other in zip(events(plain), events(as_json), strict=True):
+        head, _, body = one.partition("\n\n")
+        headers = dict(line.split(": ", 1) for line in head.split("\n"))
+        expected = {name: readable(unquote_to_bytes(value)) for name, value in headers.items()}
+        read = json.loads(other.encode("latin-1"))
+        yield read, expected | ({"_body": body} if body else {})
+        yield list(read), sorted(read)
+
+
+def readable(value):
+    try:
+        return value.decode()
+    except UnicodeDecodeError:
+        return "".join(f"%{byte:02X}" for byte in value)
+
+
+@row("filters look at values and not at JSON", COMING_ROWS)
+def filters_of_json():
+    filters = {
+        'Job-Command-Arg a"b': 1, 'Job-Command-Arg a\\"b': 0, "_body x": 0, "Content-Length 3": 0,
+        "Job-Command-Arg \xff": 1, "Job-Command-Arg %FF": 0,
+    }
+    for one, count in filters.items():
+        said = coming("event json BACKGROUND_JOB", f"filter {one}", "bgapi echo a\"b", "bgapi echo \xff")
+        yield (one, len(events(said))), (one, count)
+
+
+@row("10,000 events wait at most as JSON, too", COMING_ROWS)
+def lost_json():
+    said = coming("event json CHANNEL_EXECUTE", "api originate loopback/many &park()")
+    yield len(events(said)), 10000
+    yield json.loads(events(said)[-1])["Event-Name"], "CHANNEL_EXECUTE"
+
+
+@row("the model of today knows no JSON", COMING_ROWS)
+def no_json_yet():
+    yield play(EMPTY, "event json ALL", "event json").told()[2:], [NO_FORMAT] * 2
 
 
 def main():

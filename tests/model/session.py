@@ -131,7 +131,8 @@ class Session:
         headers = event_headers(event, self.events_told.total(), self.switch.now)
         if subscription.lets_through(headers) and self.waiting_events < MOST_WAITING_EVENTS:
             self.waiting_events += 1
-            self.waiting.append(Waiting(event_frame(headers, event.body), of_event=True))
+            frame = event_frame(headers, event.body, subscription.form)
+            self.waiting.append(Waiting(frame, of_event=True))
 
     def run(self):
         """Does all that is due. While a reply is owed the clock goes on. Then what waits is written."""

@@ -384,6 +384,14 @@ def sched_del(switch, words):
     return f"+OK Deleted: {switch.tasks.delete(need(words, 1)[0])}\n"
 
 
+@command("limit_usage", "hash <realm> <id>", commands=COMING)
+def limit_usage(switch, words):
+    backend, realm, name = need(words, 3)[:3]
+    if backend != "hash":
+        raise WrongUsage
+    return str(len(switch.holds.of(realm, name)))
+
+
 USAGE_OF_ORIGINATE = "<call url> <exten>|&<app>(<args>) [dialplan] [context] [cid_name] [cid_num] [timeout]"
 
 

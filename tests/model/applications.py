@@ -5,6 +5,7 @@ from channels import Wait
 from dialing import DialFault, read_dial_string
 from dialplan import INLINE, assign
 from hangups import by_slot, hang_up, leave
+from holds import MOST_HOLDS
 from originations import USUAL_SECONDS, originate
 from races import fail_bridge
 from tables import State, cause_or, words_of
@@ -20,6 +21,8 @@ from variables import (
 TOLD_OF_ARGUMENT = 1024
 UNKNOWN_APPLICATION = "DESTINATION_OUT_OF_ORDER"
 LAST_PORT = 65535
+SHORTEST_LIMIT, LONGEST_LIMIT = 4, 7
+GREATEST_MOST = 4294967295
 
 
 def run_action(switch, channel, action):
@@ -34,7 +37,13 @@ def run_action(switch, channel, action):
     if action.application in INLINE:
         run_assignment(switch, channel, action.application, argument)
     else:
-        APPLICATIONS.get(action.application, run_unknown)(switch, channel, argument)
+        application(switch, action.application)(switch, channel, argument)
+
+
+def application(switch, name):
+    """What the application of this name does. What is still to come is known to some switches alone."""
+    coming = COMING if switch.coming else {}
+    return APPLICATIONS.get(name) or coming.get(name) or run_unknown
 
 
 def run_assignment(switch, channel, application, argument):
@@ -133,6 +142,36 @@ def run_fifo(switch, channel, argument):
         channel.wait_for(Wait.CALLER, queue=queue)
 
 
+def run_limit(switch, channel, argument):
+    """`hash REALM NAME MOST` holds a thing where fewer than MOST others do, and else routes the channel elsewhere.
+
+    A channel that holds it already goes on. Where to it is routed the words behind may say.
+    """
+    words = words_of(argument)[:LONGEST_LIMIT]
+    if not is_limit(words):
+        run_unknown(switch, channel, argument)
+        return
+    _, realm, name, most, *elsewhere = words
+    holders = switch.holds.of(realm, name)
+    if channel in holders:
+        switch.complete(channel)
+    elif len(holders) >= read_number(most):
+        transfer(switch, [channel], elsewhere or ["limit_exceeded"])
+    elif switch.holds.count(channel) == MOST_HOLDS:
+        hang_up(switch, {channel: "SWITCH_CONGESTION"})
+    else:
+        switch.holds.add(realm, name, channel)
+        switch.complete(channel)
+
+
+def is_limit(words):
+    """The one backend, three words more, of which the last is a number, and no word that is too long."""
+    if len(words) < SHORTEST_LIMIT or words[0] != "hash":
+        return False
+    most = read_number(words[3])
+    return most is not None and most <= GREATEST_MOST and all(len(word) <= LONGEST_NAME for word in words)
+
+
 def run_socket(switch, channel, argument):
     """The channel waits for a connection to its first word. Where that is no target it goes on at once."""
     if is_target((words_of(argument) or [""])[0]):
@@ -157,4 +196,9 @@ APPLICATIONS = {
     "transfer": run_transfer,
     "fifo": run_fifo,
     "socket": run_socket,
+}
+
+# what the program does not know yet
+COMING = {
+    "limit": run_limit,
 }

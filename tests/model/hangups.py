@@ -90,6 +90,7 @@ def hang_up_one(switch, channel, cause):
     if channel.leg:
         channel.leg.die(cause, switch.entry)
         channel.leg = None
+    switch.holds.release(channel)
     channel.drop_actions()
     channel.messages = []
     channel.wait_for(Wait.NOTHING)

@@ -5,7 +5,7 @@ from random_plays import any_channel
 
 
 class Json(Everything):
-    """The plays of all kinds, whose events are told as JSON, and plain now and then, with odd bytes in their values."""
+    """The plays of all kinds, whose events are told as JSON, and now and then plain, and odd bytes in values."""
 
     FORMS = ("json", "json", "json", "plain", "xml", "JSON", "json json", "plain json", "")
     NAMES_OF_FORMS = (

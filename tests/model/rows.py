@@ -1698,6 +1698,143 @@ def no_json_yet():
     yield play(EMPTY, "event json ALL", "event json").told()[2:], [NO_FORMAT] * 2
 
 
+def limit_document(*extensions, **settings):
+    """Calls that hold a thing, and those for which there is no room."""
+    texts = {
+        "lim": "limit hash r a 1; answer; park",
+        "two": "limit hash r a 2; answer; park",
+        "limit_exceeded": "hangup USER_BUSY",
+        "ans": "answer; park",
+        "busy": "hangup CALL_REJECTED",
+        "-odd": "hangup NO_ANSWER",
+    } | dict(extensions)
+    made = [Extension(number, actions(text)) for number, text in texts.items()]
+    return Document({"default": made, "other": [Extension("ans", actions("hangup NO_ANSWER"))]}, **settings)
+
+
+def limited(*lines, extensions=()):
+    return coming(*lines, document=limit_document(*extensions))
+
+
+def limit_of(text):
+    """What becomes of a call that runs it, answers and parks: the answer of the command, and how many hold `a`."""
+    return limited(call("1"), USAGE_OF_LIMITS, extensions=[("1", f"limit {text}; answer; park")]).bodies()
+
+
+GOES_ON, NO_ROOM, NO_FORM = f"+OK {FIRST}\n", "-ERR USER_BUSY\n", "-ERR DESTINATION_OUT_OF_ORDER\n"
+USAGE_OF_LIMITS = "api limit_usage hash r a"
+
+
+@row("one call at a time holds a thing", COMING_ROWS)
+def one_at_a_time():
+    lines = (call("lim"), call("lim"), USAGE_OF_LIMITS, f"api uuid_kill {FIRST}", call("lim"))
+    yield limited(*lines).bodies(), [GOES_ON, NO_ROOM, "1", "+OK\n", f"+OK {identifier(5)}\n"]
+    lines = (call("two"), call("two"), call("two"), USAGE_OF_LIMITS, call("lim"), "api hupall", USAGE_OF_LIMITS)
+    said = limited(*lines).bodies()
+    yield said[2:5] + said[6:], [NO_ROOM, "2", NO_ROOM, "0"]
+    mixed = (call("lim"), call("two"), USAGE_OF_LIMITS, call("two"), f"api uuid_kill {FIRST}", call("lim"))
+    yield limited(*mixed).bodies()[2:], ["2", NO_ROOM, "+OK\n", NO_ROOM]
+
+
+@row("a thing is told by its realm and its name", COMING_ROWS)
+def realm_and_name():
+    usages = [f"api limit_usage hash {key}" for key in ("r a", "r b", "a r", "R a", "r A", "r  a more")]
+    yield limited(call("lim"), *usages).bodies()[1:], ["1", "0", "0", "0", "0", "1"]
+    other = (("b", "limit hash r b 1; answer; park"), ("s", "limit hash s a 1; answer; park"))
+    said = limited(call("lim"), call("b"), call("s"), call("b"), *usages[:2], extensions=other)
+    yield said.bodies()[1:], [f"+OK {identifier(3)}\n", f"+OK {identifier(5)}\n", NO_ROOM, "1", "1"]
+
+
+@row("who holds a thing already goes on", COMING_ROWS)
+def held_already():
+    yield limit_of("hash r a 1; limit hash r a 0; limit hash r a 1"), [GOES_ON, "1"]
+    yield limit_of("hash r a 0"), [NO_ROOM, "0"]
+    again = ("1", "limit hash r a 1; answer; transfer 1")
+    said = limited("api originate loopback/1 &park()", USAGE_OF_LIMITS, extensions=[again])
+    yield said.session.hangups, {"EXCHANGE_ROUTING_ERROR": 2}
+
+
+@row("what a channel does for which there is no room", COMING_ROWS)
+def no_room():
+    expected = {
+        "hash r a 0 busy": "-ERR CALL_REJECTED\n", "hash r a 0 ans": GOES_ON, "hash r a 0 ans XML": GOES_ON,
+        "hash r a 0 ans XML other": "-ERR NO_ANSWER\n", "hash r a 0 ans foo": "-ERR NO_ROUTE_DESTINATION\n",
+        "hash r a 0 -odd": "-ERR NO_ANSWER\n", "hash r a 0 nix": "-ERR NO_ROUTE_DESTINATION\n",
+        "hash r a 0 ans XML default more": GOES_ON, "hash r a 0 -both ans": "-ERR NO_ROUTE_DESTINATION\n",
+    }
+    for text, answer in expected.items():
+        yield (text, limit_of(text)), (text, [answer, "0"])
+    said = limited(WATCHED, call("1"), extensions=[("1", "limit hash r a 0 ans; park")])
+    yield brief(said).partition(", ANSWER")[0], (
+        "STATE 1, STATE 1, STATE 2, STATE 2, STATE 2, EXECUTE 2, STATE 2, STATE 2, EXECUTE 2"
+    )
+    said = limited(call("lim"), call("ans"), WATCHED, execute(4, "limit", "hash r a 1 ans"))
+    yield brief(said), f"EXECUTE 4, UNPARK 4, STATE 4, {routed(4)}"
+    messages = (execute(4, "limit", "hash r a 2 ans"), execute(2, "limit", "hash r a 0"))
+    said = limited(call("lim"), call("ans"), WATCHED, *messages)
+    yield brief(said), "EXECUTE 4, EXECUTE_COMPLETE 4, EXECUTE 2, EXECUTE_COMPLETE 2"
+    document = limit_document(("1", "limit hash r a 0; answer; park"))
+    del document.contexts["default"][2]
+    yield coming(call("1"), document=document).bodies(), ["-ERR NO_ROUTE_DESTINATION\n"]
+
+
+@row("forms of limits", COMING_ROWS)
+def forms_of_limits():
+    long, longest = "y" * 257, "y" * 256
+    refused = (
+        "", "hash", "hash r", "hash r a", "hash r a x", "hash r a -1", "hash r a +1", "hash r a 1.5",
+        "hash r a 4294967296", "hash r a " + "0" * 20 + "1", "db r a 1", "HASH r a 1", "r a 1", "hash\tr a 1",
+        f"hash {long} a 1", f"hash r {long} 1", f"hash r a 1 {long}", f"hash r a 1 ans {long}",
+        f"hash r a 1 ans XML {long}", "hash r a ${nosuch}",
+    )
+    for text in refused:
+        yield (text, limit_of(text)), (text, [NO_FORM, "0"])
+    fine = (
+        "hash r a 1", "hash r a 4294967295", "hash r a " + "0" * 19 + "1", "  hash  r   a  1  ",
+        "hash r ${nosuch}a 1", f"hash r a 1 {longest} {longest} {longest} {long}",
+    )
+    for text in fine:
+        yield (text, limit_of(text)), (text, [GOES_ON, "1"])
+
+
+@row("a channel holds 64 things", COMING_ROWS)
+def many_holds():
+    holds = "; ".join(f"limit hash r {count} 1" for count in range(64))
+    yield limit_of(f"hash r a 1; {holds}"), ["-ERR SWITCH_CONGESTION\n", "0"]
+    yield limit_of(f"hash x y 0 1; {holds}"), ["-ERR EXCHANGE_ROUTING_ERROR\n", "0"]
+    full = (
+        ("full", f"{holds}; limit hash r 63 0; limit hash r a 0 ans"),
+        ("more", f"{holds}; limit hash r a 1 ans"),
+    )
+    yield limited(call("full"), "api limit_usage hash r 63", extensions=full).bodies(), [GOES_ON, "1"]
+    said = limited(call("lim"), call("more"), "api limit_usage hash r 0", extensions=full)
+    yield said.bodies()[1:], [f"+OK {identifier(3)}\n", "1"]
+    said = limited(call("more"), "api limit_usage hash r 0", extensions=full)
+    yield said.bodies(), ["-ERR SWITCH_CONGESTION\n", "0"]
+
+
+@row("a channel holds a thing until it is hung up", COMING_ROWS)
+def until_hung_up():
+    stays = (f"api uuid_transfer {SECOND} ans", f"api uuid_park {SECOND}", uuid_bridge(2, 4))
+    for line in stays:
+        yield limited(call("lim"), call("ans"), line, USAGE_OF_LIMITS).bodies()[-1], "1"
+    goes = (f"api uuid_kill {FIRST}", f"api uuid_kill {SECOND}", "api hupall", f"api uuid_transfer {SECOND} nix")
+    for line in goes:
+        yield limited(call("lim"), line, USAGE_OF_LIMITS).bodies()[-1], "0"
+    said = limited("api originate loopback/two,loopback/two &park()", USAGE_OF_LIMITS)
+    yield said.bodies(), [GOES_ON, "1"]
+    yield limited("api originate loopback/ans '&limit(hash r a 1)'", USAGE_OF_LIMITS).bodies(), [GOES_ON, "0"]
+
+
+@row("the usage of limits, which the model of today does not know", COMING_ROWS)
+def usage_of_limits():
+    usage = "-USAGE: hash <realm> <id>\n"
+    words = ("", " hash", " hash r", " r a", " db r a", " HASH r a", " hash r a", " hash r " + "a" * 300)
+    yield limited(*(f"api limit_usage{one}" for one in words)).bodies(), [usage] * 6 + ["0"] * 2
+    said = queued(call("lim"), USAGE_OF_LIMITS, document=limit_document())
+    yield said.bodies(), [NO_FORM, "-ERR limit_usage Command not found!\n"]
+
+
 def main():
     words = argparse.ArgumentParser(description=__doc__, formatter_class=argparse.RawDescriptionHelpFormatter)
     words.add_argument("--coming", action="store_true")

@@ -7,6 +7,7 @@ from applications import run_action
 from channels import Channel, Wait
 from dialplan import hunt
 from hangups import by_slot, hang_up
+from holds import Holds
 from jobs import Job
 from queues import Queues, take
 from races import conclude
@@ -45,6 +46,7 @@ class Switch:
         self.globals = Variables(OF_GLOBALS, document.global_values)
         self.channels = {}
         self.queues = Queues()
+        self.holds = Holds()
         self.tasks = Tasks()
         self.jobs = {}
         self.now = 0

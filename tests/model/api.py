@@ -16,6 +16,7 @@ from frames import header_lines, variable_headers
 from hangups import by_slot, hang_up, leave
 from jobs import MOST_JOBS, Dial, Job, Sleep
 from originations import SECOND, USUAL_SECONDS, Order, Route, originate
+from reloads import Reload
 from tables import State, cause_or, words_of
 from variables import LONGEST_NAME, ExpansionTooLong, expand, read_milliseconds, read_seconds, split_pair
 
@@ -382,6 +383,15 @@ def sched_api(switch, text):
 @command("sched_del", "<group|number>", commands=COMING)
 def sched_del(switch, words):
     return f"+OK Deleted: {switch.tasks.delete(need(words, 1)[0])}\n"
+
+
+@command("reloadxml", commands=COMING)
+def reloadxml(switch, _words):
+    """The file is read again by a job, where there is room for that in the journal."""
+    need_job(switch)
+    if not switch.journal.has_room_for_load():
+        raise Refused("journal limit")
+    begin_task(switch, lambda _: Reload())
 
 
 @command("limit_usage", "hash <realm> <id>", commands=COMING)

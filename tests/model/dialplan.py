@@ -123,7 +123,7 @@ def hunt(switch, channel):
 
 def found_actions(switch, channel):
     """Inline actions act at once, and are not among those given."""
-    for extension in switch.document.contexts.get(channel.profile.context, ()):
+    for extension in switch.contexts.get(channel.profile.context, ()):
         if extension.number != channel.profile.destination_number:
             continue
         in_time = hold(extension.times, minute_at(switch.document, switch.now))

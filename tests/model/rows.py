@@ -20,6 +20,7 @@ import load
 from api import COMING, COMMANDS
 from blocks import Stream
 from dialplan import Action, Document, Extension
+from reloads import NO_FILE, document_load, refused_load
 from session import Session
 from tables import identifier
 
@@ -78,8 +79,8 @@ def blocks(*lines):
 class Played:
     """A play of one connection."""
 
-    def __init__(self, document, pieces, coming=False):
-        self.session = Session(document, coming)
+    def __init__(self, document, pieces, coming=False, loads=None):
+        self.session = Session(document, coming, loads)
         self.result = self.session.play(pieces)
 
     def told(self):
@@ -564,9 +565,9 @@ def queued(*lines, document=None):
     return play(document or queue_document(), *lines)
 
 
-def coming(*lines, document=None):
-    """A play in which the model knows what is still to come."""
-    return Played(document or usual_document(), blocks("auth ClueCon", *lines), coming=True)
+def coming(*lines, document=None, loads=None):
+    """A play in which the model knows what is still to come, also of loads of the file."""
+    return Played(document or usual_document(), blocks("auth ClueCon", *lines), coming=True, loads=loads)
 
 
 def events(played):
@@ -1833,6 +1834,157 @@ def usage_of_limits():
     yield limited(*(f"api limit_usage{one}" for one in words)).bodies(), [usage] * 6 + ["0"] * 2
     said = queued(call("lim"), USAGE_OF_LIMITS, document=limit_document())
     yield said.bodies(), [NO_FORM, "-ERR limit_usage Command not found!\n"]
+
+
+RELOADED = "+OK [Success]\n"
+
+
+def other_document(**settings):
+    """The usual document, but for calls to `ans`, which are busy."""
+    document = usual_document()
+    extensions = document.contexts["default"]
+    extensions[0] = Extension("ans", actions("hangup USER_BUSY"))
+    return Document({"default": extensions}, **settings)
+
+
+def reloaded(*lines, document=None, loads=None):
+    """The documents that the file has when it is read again."""
+    return coming(*lines, document=document, loads=loads and map(document_load, loads))
+
+
+@row("the file is read again, and has another document", COMING_ROWS)
+def read_again():
+    lines = (call("ans"), "api reloadxml", call("ans"), f"api uuid_exists {FIRST}", "api expand echo ${x}")
+    said = reloaded(*lines, loads=[other_document()])
+    yield said.bodies(), [GOES_ON, RELOADED, NO_ROOM, "true", "1234567890"]
+    yield reloaded(*lines).bodies(), [GOES_ON, RELOADED, f"+OK {identifier(3)}\n", "true", "1234567890"]
+    yield (COST_OF_PASSWORD, ROOM_FOR_LOAD), (270, 1114241)
+    lines = ("api reloadxml", call("ans"), "api  reloadxml  now", call("ans"), "api expand reloadxml", call("ans"))
+    said = reloaded(*lines, loads=[other_document(), usual_document(), Document({})])
+    refused = "-ERR NO_ROUTE_DESTINATION\n"
+    yield said.bodies(), [RELOADED, NO_ROOM, RELOADED, f"+OK {identifier(3)}\n", RELOADED, refused]
+
+
+@row("the file is no document, or is gone", COMING_ROWS)
+def no_document():
+    refusals = (
+        refused_load("<document", "Truncated at 9"),
+        refused_load("x" * 1048577, "TooLarge at 1048576"),
+        refused_load("<document/>", "pattern refused in extension 1 condition 2"),
+        NO_FILE,
+    )
+    for refusal in refusals:
+        said = coming("api reloadxml", call("ans"), loads=[refusal])
+        yield said.bodies(), [f"-ERR {refusal.refusal}\n", GOES_ON]
+
+
+@row("what a load costs", COMING_ROWS)
+def cost_of_load():
+    for load in (document_load(usual_document()), refused_load("<document", "Truncated at 9"), NO_FILE):
+        said = coming("api reloadxml", loads=[load])
+        commands = len("auth ClueCon\n\napi reloadxml\n\n")
+        # the connection, two commands, the load, three frames, the end of the input, and that of the connection
+        yield said.session.journal.cost, 64 * 9 + commands + load.length
+    yield len(usual_document().written()) > 9, True
+
+
+@row("whether the journal has room for a load", COMING_ROWS)
+def room_for_load():
+    refused = "-ERR journal limit\n"
+    yield coming("api reloadxml", document=Document({}, journal_limit=1048576)).bodies(), [refused]
+    watched, job = "event plain BACKGROUND_JOB", "bgapi reloadxml"
+    begun = 64 + len(f"{watched}\n\n") + 64 + 64 + len(f"{job}\n\n")
+    for more, answer in ((0, RELOADED), (-1, refused)):
+        limit = COST_OF_PASSWORD + ROOM_FOR_LOAD + more
+        yield coming("api reloadxml", document=Document({}, journal_limit=limit)).bodies(), [answer]
+        said = coming(watched, job, document=Document({}, journal_limit=limit + begun))
+        yield [event.partition("\n\n")[2] for event in events(said)], [answer]
+    longest = "api reloadxml ".ljust(65534, "x")
+    said = coming(longest, document=Document({}, journal_limit=COST_OF_PASSWORD + ROOM_FOR_LOAD))
+    yield (said.bodies(), said.ended()), ([RELOADED], (0, ""))
+
+
+# the connection, its frame, the password, and its frame
+COST_OF_PASSWORD = 64 * 4 + len("auth ClueCon\n\n")
+
+# a command of the longest block, and a text of one byte more than a document may have
+ROOM_FOR_LOAD = 64 + 65536 + 64 + 1048577
+
+
+@row("globals of the document come back, over those that are there", COMING_ROWS)
+def globals_come_back():
+    document = Document({}, global_values={"a": "1", "b": "2", "c": "3"})
+    lines = ("global_setvar b=x", "global_setvar c=", "global_setvar d=4", "reloadxml", "global_getvar")
+    said = reloaded(*(f"api {line}" for line in lines), document=document)
+    yield said.bodies()[3:], [RELOADED, "a=1\nb=2\nd=4\nc=3\n"]
+    loads = [Document({}, global_values={"e": "5"})]
+    said = reloaded(*(f"api {line}" for line in lines), document=document, loads=loads)
+    yield said.bodies()[3:], [RELOADED, "a=1\nb=x\nd=4\ne=5\n"]
+
+
+@row("globals of the document may pass a limit, and then nothing changes", COMING_ROWS)
+def globals_past_limit():
+    names = {f"n{count}": "1" for count in range(1023)}
+    two_more = Document(other_document().contexts, global_values={"y": "1", "z": "1"})
+    one_more = Document(other_document().contexts, global_values={"y": "2", "n0": "2"})
+    document = Document(usual_document().contexts, global_values=names)
+    lines = ("api reloadxml", call("ans"), "api global_getvar y", "api global_getvar n0")
+    limit = "-ERR variable limit passed\n"
+    yield reloaded(*lines, document=document, loads=[two_more]).bodies(), [limit, GOES_ON, "-ERR no reply\n", "1"]
+    yield reloaded(*lines, document=document, loads=[one_more]).bodies(), [RELOADED, NO_ROOM, "2", "2"]
+    large = {f"large{count}": "x" * 16377 for count in range(16)}
+    for last, answer in (("x" * 6, RELOADED), ("x" * 7, limit)):
+        total = sum(len(name) + len(value) for name, value in large.items())
+        loads = [Document({}, global_values={"y": "x" * (262144 - total - 7) + last})]
+        yield reloaded("api reloadxml", document=Document({}, global_values=large), loads=loads).bodies(), [answer]
+    # one becomes small and another large, so that the limit is kept in the end
+    before, behind = large | {"y": "x"}, large | {"large0": "x", "y": "x" * 16000}
+    documents = [Document({}, global_values=values) for values in (before, behind)]
+    yield reloaded("api reloadxml", document=documents[0], loads=documents[1:]).bodies(), [RELOADED]
+
+
+@row("what a channel has to run stays, and where it is routed to next is new", COMING_ROWS)
+def running_stays():
+    texts = (("answer; sleep 1000; transfer 2", "park"), ("hangup", "hangup USER_BUSY"))
+    waits, busy = (
+        Document({"default": [Extension(number, actions(text)) for number, text in zip("12", two)]}) for two in texts
+    )
+    lines = (call("1"), "api reloadxml", f"api uuid_exists {SECOND}", "api msleep 1000", f"api uuid_exists {SECOND}")
+    said = reloaded(*lines, document=waits, loads=[busy])
+    yield said.bodies()[1:], [RELOADED, "true", "+OK\n", "false"]
+    yield said.session.hangups, {"USER_BUSY": 2}
+
+
+@row("settings stay", COMING_ROWS)
+def settings_stay():
+    closed = timed_document({"hour": "0"}, time_base=3600, slots=2, journal_limit=1048576, password="other")
+    calls = (call("1"), "api reloadxml", call("1"), call("1"))
+    lines = ("event plain CHANNEL_EXECUTE", "filter Application log", *calls)
+    said = reloaded(*lines, document=timed_document({"hour": "0"}), loads=[closed])
+    yield re.findall("Application-Data: (.*)", said.result.output), ["open"] * 3
+
+
+@row("jobs that load", COMING_ROWS)
+def jobs_that_load():
+    loads = [document_load(usual_document()), refused_load("<document", "Truncated at 9")]
+    jobs = ("bgapi reloadxml\nJob-UUID: q", "bgapi reloadxml")
+    said = coming("event plain BACKGROUND_JOB", *jobs, loads=loads)
+    told = "Job-UUID: (.*)\nJob-Command: reloadxml\n.*\n\n(.*)"
+    yield [re.search(told, event).groups() for event in events(said)], [
+        ("q", "+OK [Success]"),
+        (FIRST, "-ERR Truncated at 9"),
+    ]
+    sleeps = ["bgapi msleep 5000"] * 1023
+    said = coming("event plain BACKGROUND_JOB", *sleeps, "bgapi reloadxml", "bgapi msleep 1", "api reloadxml")
+    yield [event.partition("\n\n")[2] for event in events(said)], [RELOADED]
+    yield said.bodies(), ["-ERR too many jobs\n"]
+    full = coming("bgapi msleep 1000", "api reloadxml", document=Document({}, journal_limit=1048576))
+    yield full.bodies(), ["-ERR journal limit\n"]
+
+
+@row("the model of today reads no file again", COMING_ROWS)
+def no_reload_yet():
+    yield answers("reloadxml"), ["-ERR reloadxml Command not found!\n"]
 
 
 def main():

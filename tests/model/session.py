@@ -7,10 +7,13 @@ from functools import partial
 from blocks import LONGEST_BLOCK, BlockFault, Stream
 from commands import Connection
 from frames import AUTH_REQUEST, NOTICE, api_response, event_frame, event_headers
+from reloads import same_again
 from switch import Switch
 
 COST_OF_ENTRY = 64
 LARGEST_COST = COST_OF_ENTRY + LONGEST_BLOCK
+LONGEST_DOCUMENT = 1048576
+LARGEST_LOAD = COST_OF_ENTRY + LONGEST_DOCUMENT + 1
 MOST_WAITING_EVENTS = 10000
 MOST_AT_ONE_MOMENT = 100000
 
@@ -38,6 +41,16 @@ class Journal:
         self.cost_before_entry = self.cost
         self.cost += COST_OF_ENTRY + block_length
 
+    def has_room_for_load(self):
+        """Behind the largest entry in place of that in hand there is room for a load of the longest text."""
+        return self.cost_before_entry + LARGEST_COST + LARGEST_LOAD <= self.limit
+
+    def add_load(self, length):
+        """The entry in hand has a text of this length, where there was room for the longest."""
+        if self.cost_before_entry + LARGEST_LOAD > self.limit:
+            raise PlayOver(8, f"fsw: journal full {self.cost_before_entry} {self.limit}")
+        self.cost += length
+
     def nearly_full(self):
         """Over 15/16 of the limit were cost before the entry in hand."""
         return self.cost_before_entry * 16 > self.limit * 15
@@ -64,9 +77,10 @@ class Waiting:
 
 
 class Session:
-    def __init__(self, document, coming=False):
+    def __init__(self, document, coming=False, loads=None):
+        """Whenever the file is read again it has the document, unless there are other loads to come."""
         self.journal = Journal(document.journal_limit)
-        self.switch = Switch(document, self.journal, coming)
+        self.switch = Switch(document, self.journal, coming, loads or same_again(document))
         self.stream = Stream()
         self.connection = Connection(self.switch)
         self.waiting = deque()

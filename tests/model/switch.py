@@ -39,10 +39,12 @@ class Switch:
     A switch to which `coming` is said knows what is still to come.
     """
 
-    def __init__(self, document, journal, coming=False):
+    def __init__(self, document, journal, coming=False, loads=()):
         self.coming = coming
         self.document = document
         self.journal = journal
+        self.loads = iter(loads)
+        self.contexts = document.contexts
         self.globals = Variables(OF_GLOBALS, document.global_values)
         self.channels = {}
         self.queues = Queues()

@@ -76,6 +76,12 @@ class Variables:
         """The names that `export_vars` lists, as they stand between the commas."""
         return self.values["export_vars"].split(",") if "export_vars" in self.values else []
 
+    def with_all(self, values):
+        """These and the ones that are set over them, or nothing where a limit would be passed in the end."""
+        changed = self.copy()
+        changed.values |= values
+        return changed if all(changed._within_limits(*pair) for pair in values.items()) else None
+
     def _within_limits(self, name, value):
         """Counted are the variables as they would be afterwards."""
         if len(name) > LONGEST_NAME or len(value) > LONGEST_VALUE:

@@ -1,5 +1,6 @@
 """The kinds of plays of what is still to come."""
 
+from everything import Everything
 from held import Held
 from hourly import Hourly
 from joined import Joined
@@ -7,4 +8,5 @@ from json_events import Json
 from reloaded import Reloaded
 from scheduled import Scheduled
 
-COMING_KINDS = {kind.__name__.lower(): kind for kind in (Joined, Hourly, Scheduled, Json, Held, Reloaded)}
+ALL = (Joined, Hourly, Scheduled, Json, Held, Reloaded, Everything)
+COMING_KINDS = {kind.__name__.lower(): kind for kind in ALL}

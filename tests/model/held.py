@@ -5,11 +5,9 @@ from random_plays import ANSWER, PARK, any_channel, brackets
 from waiting import Trying
 
 
-class Held(Trying):
-    """Calls that go on where there is room and elsewhere where there is none, and what is told of that."""
+class Limiting(Trying):
+    """All applications, and among them limits."""
 
-    fewest_commands = 10
-    most_commands = 50
     REALMS = ("r", "r", "r", "s", "\xe9", "R")
     NAMES_HELD = ("a", "a", "a", "b", "c", "r")
     MOST = ("0", "1", "1", "1", "2", "2", "3", "4", "4294967295", "00000000000000000002")
@@ -41,6 +39,13 @@ class Held(Trying):
         """Where a channel goes for which there is no room."""
         behind = self.one_of("XML", "foo", "xml", "XML default", "XML nix", "XML other", "XML default more")
         return self.weighed((6, ""), (4, lambda: " " + self.number()), (1.5, lambda: f" {self.number()} {behind}"))
+
+
+class Held(Limiting):
+    """Calls that go on where there is room and elsewhere where there is none, and what is told of that."""
+
+    fewest_commands = 10
+    most_commands = 50
 
     def document(self):
         """Mostly there is an extension for those who have no room, and now and then one that holds many things."""

@@ -1,7 +1,9 @@
 """All kinds of random plays, and two that mix them."""
 
+from dataclasses import replace
+
 from background import Crowds, FurtherBlocks, FurtherStreams, Jobs
-from dialplan import Document, Extension
+from dialplan import Document
 from layers import Layers
 from limits import Bytes, Limits, Room
 from messages import Messages, Variables
@@ -40,8 +42,7 @@ class Mixture(Layers):
         return Document(contexts, slots=self.one_of(32, 32, 32, 64, 16, 8))
 
     def renamed(self, extension):
-        own = extension.number + self.one_of("", "q")
-        return Extension(own, extension.actions, extension.continues)
+        return replace(extension, number=extension.number + self.one_of("", "q"))
 
     def command(self, session):
         if self.parts and self.chance(0.35):

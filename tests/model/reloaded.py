@@ -14,7 +14,7 @@ class Reloaded(Everything):
 
     def document(self):
         document = super().document()
-        document.global_values = {name: self.one_of("1", "two", "${a}", "\xff") for name in self.NAMES[:5]}
+        document.global_values |= {name: self.one_of("1", "two", "${a}", "\xff") for name in self.NAMES[:5]}
         if self.chance(0.2):
             document.global_values |= {f"large{count}": self.LARGE for count in range(self.one_of(3, 15))}
         if self.chance(0.4):
@@ -41,13 +41,10 @@ class Reloaded(Everything):
     def many_globals(self, value, count):
         return "\n\n".join(f"api global_setvar f{number}={value}" for number in range(count))
 
-    def later(self):
-        return f"api sched_api {self.one_of('+0', '+1')} g reloadxml"
-
     def crowd(self, session):
         """A load finds no room for its job, or a job that waits goes on in its own."""
         room = MOST_JOBS - len(session.switch.jobs) + self.one_of(-1, 0)
-        return "\n\n".join([*["bgapi msleep 1000"] * max(room, 0), self.reload(), self.later(), "api hupall"])
+        return "\n\n".join([*["bgapi msleep 1000"] * max(room, 0), self.reload(), self.reload(), "api hupall"])
 
     def command(self, session):
         usual = super().command
@@ -56,7 +53,6 @@ class Reloaded(Everything):
             (7, lambda: usual(session)),
             (3, self.reload),
             (2, self.changed_global),
-            (0.5, self.later),
             (0.5, "api msleep 1000"),
             (0.1 if early else 0, lambda: self.crowd(session)),
         )

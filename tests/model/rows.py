@@ -1957,11 +1957,11 @@ def running_stays():
 
 @row("settings stay", COMING_ROWS)
 def settings_stay():
-    closed = timed_document({"hour": "0"}, time_base=3600, slots=2, journal_limit=1048576, password="other")
-    calls = (call("1"), "api reloadxml", call("1"), call("1"))
-    lines = ("event plain CHANNEL_EXECUTE", "filter Application log", *calls)
-    said = reloaded(*lines, document=timed_document({"hour": "0"}), loads=[closed])
-    yield re.findall("Application-Data: (.*)", said.result.output), ["open"] * 3
+    smaller = Document(usual_document().contexts, slots=2, journal_limit=1048576, password="other")
+    lines = ("api reloadxml", *[call("ans")] * 17, "auth other", "api reloadxml")
+    said = reloaded(*lines, loads=[smaller] * 2)
+    began = [f"+OK {identifier(1 + 2 * count)}\n" for count in range(16)]
+    yield said.bodies(), [RELOADED, *began, "-ERR SWITCH_CONGESTION\n", RELOADED]
 
 
 @row("jobs that load", COMING_ROWS)

@@ -14,7 +14,7 @@ class Json(Everything):
         "CHANNEL_STATE json",
     )
     ODD_BYTES = (
-        '"', "\\", "/", "\t", "\x01", "\x1f", "\x7f", "\x08", "\x0c", "\x0b", "%", "{", "}", "a", "b c", "&#0;",
+        '"', "\\", "/", "\t", "\0", "\x01", "\x1f", "\x7f", "\x08", "\x0c", "\x0b", "%", "{", "}", "a", "b c", "&#0;",
         "\\u0041", "\xc3\xa9", "\xe2\x82\xac", "\xf0\x9f\x98\x80", "\xc2\x80", "\xef\xbf\xbd", "\xe2\x80\xa8",
         "\xff", "\xc3", "\xa9", "\xc0\xaf", "\xed\xa0\x80", "\xf4\x90\x80\x80",
     )

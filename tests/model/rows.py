@@ -1221,6 +1221,66 @@ def order_of_leaving():
     )
 
 
+@row("partners that dial, and partners that wait in a queue, die with a leg that is left behind", COMING_ROWS)
+def waiting_partners():
+    dialing = (call("dials"), call("ans"), uuid_bridge(1, 5), WATCHED)
+    legs, pair = "HANGUP 3, STATE 3, HANGUP 4, STATE 4", "HANGUP 1, STATE 1, HANGUP 2, STATE 2"
+    said = bridging(*dialing, uuid_transfer(1, "-bleg ans"))
+    yield brief(said), f"UNBRIDGE 1, {pair}, {legs}, STATE 5, {gone(1, 2, 3, 4)}, {routed(5)}"
+    yield said.session.hangups, {"NORMAL_CLEARING": 2, "ORIGINATOR_CANCEL": 2}
+    for caller, other in ((2, 5), (5, 2)):
+        said = bridging(*dialing, uuid_bridge(caller, other))
+        yield (brief(said), said.bodies()[-1]), (f"{legs}, UNBRIDGE 1, {pair}, {gone(1, 2, 3, 4)}", NO_CHANNEL)
+    waiting = (call("q"), call("ans"), uuid_bridge(3, 1), WATCHED)
+    pair = "HANGUP 1, STATE 1, abort 2, HANGUP 2, STATE 2"
+    said = bridging(*waiting, uuid_transfer(3, "ans"))
+    yield brief(said), f"UNBRIDGE 3, {pair}, STATE 3, {gone(1, 2)}, {routed(3)}"
+    said = bridging(*waiting, uuid_bridge(3, 2))
+    yield (brief(said), said.bodies()[-1]), (f"UNBRIDGE 3, {pair}, {gone(1, 2)}", NO_CHANNEL)
+    said = bridging(*waiting, f"api uuid_setvar {FIRST} park_after_bridge true", uuid_bridge(3, 2))
+    yield brief(said), "UNBRIDGE 3, PARK 1, STATE 1, abort 2, BRIDGE 3, STATE 2"
+
+
+@row("the end of a bridge tells its caller as the entry leaves it", COMING_ROWS)
+def texts_of_ends():
+    named_by = "(Channel-State|Unique-ID|Other-Leg-Unique-ID|Bridge-.-Unique-ID|Bridge-Number|Hangup-Cause): (.*)"
+    watched = "event plain CHANNEL_UNBRIDGE CHANNEL_BRIDGE"
+    said = bridging(*THREE_BRIDGES, watched, uuid_bridge(10, 5))
+    yield [[value for _, value in re.findall(f"(?m)^{named_by}", event)] for event in events(said)], [
+        ["CS_EXCHANGE_MEDIA", identifier(5), identifier(10), identifier(5), identifier(7), "2", "NORMAL_CLEARING"],
+        ["CS_EXCHANGE_MEDIA", identifier(10), identifier(5), identifier(10), identifier(12), "3", "NORMAL_CLEARING"],
+        ["CS_EXCHANGE_MEDIA", identifier(10), identifier(5), identifier(10), identifier(5), "4"],
+    ]
+    said = bridging(*THREE_BRIDGES, watched, uuid_transfer(5, "-both ans"))
+    yield [[value for _, value in re.findall(f"(?m)^{named_by}", event)] for event in events(said)], [
+        ["CS_ROUTING", identifier(5), identifier(5), identifier(7), "2", "NORMAL_CLEARING"]
+    ]
+
+
+@row("variables of legs that are joined again, and of those that are left", COMING_ROWS)
+def variables_of_rejoined():
+    dumps = [f"api uuid_dump {identifier(leg)}" for leg in (2, 5)]
+    said = bridging(*THREE_BRIDGES, "event plain CHANNEL_HANGUP_COMPLETE", uuid_bridge(2, 5), *dumps)
+    told = [re.findall("variable_(.*): (.*)", text) for text in (*said.bodies()[-2:], *events(said))]
+    cleared = [("bridge_hangup_cause", "NORMAL_CLEARING"), ("hangup_cause", "NORMAL_CLEARING")]
+    yield told, [
+        [("originate_disposition", "SUCCESS"), ("signal_bond", identifier(5)), cleared[0]],
+        [("signal_bond", SECOND), cleared[0]],
+        [("signal_bond", SECOND), *cleared],
+        cleared[1:],
+        [("signal_bond", identifier(5)), *cleared],
+        cleared[1:],
+    ]
+
+
+@row("messages are kept by legs that are joined again or sent elsewhere", COMING_ROWS)
+def messages_kept():
+    said = bridging(*THREE_BRIDGES, execute(2, "eval"), WATCHED, uuid_bridge(2, 5), uuid_transfer(2, "-both ans"))
+    told = brief(said)
+    yield told.endswith(in_order("UNBRIDGE 2, STATE 2, STATE 5, STATE 2, EXECUTE 2, EXECUTE_COMPLETE 2",
+                                 routed(2).removeprefix("STATE 2, "), routed(5))), True
+
+
 @row("the model of today refuses legs that are bridged, and knows no sides", COMING_ROWS)
 def no_rejoining_yet():
     said = queued(call("ans"), call("ans"), uuid_bridge(1, 3), uuid_bridge(3, 1), uuid_transfer(1, "-both ans"))
@@ -1629,7 +1689,7 @@ def forms():
 def escaped_in_json():
     texts = {
         'q"q': 'q\\"q', "b\\b": "b\\\\b", "t\tt": "t\\tt", "\x01\x1f\x0b": "\\u0001\\u001f\\u000b",
-        "\b\f": "\\b\\f", "/%:=": "/%:=", "\x7f": "\x7f", "\xc3\xa9": "\xc3\xa9",
+        "\b\f": "\\b\\f", "\0": "\\u0000", "/%:=": "/%:=", "\x7f": "\x7f", "\xc3\xa9": "\xc3\xa9",
         "\xf0\x9f\x98\x80": "\xf0\x9f\x98\x80", "a\xffb c": "a%FFb%20c", "\xc3": "%C3", "\xc0\xaf": "%C0%AF",
         "\xed\xa0\x80": "%ED%A0%80", '\xff"': "%FF%22", "\xc3\xa9\xff": "%C3%A9%FF",
     }

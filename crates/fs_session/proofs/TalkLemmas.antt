@@ -1,5 +1,5 @@
 -- What comes of dialing a controller, by the link and by the reply to the entry.
-use Rattle.std.proofs.Common.{◌≡◌, ◌≢◌, ℕ, Bool, true, false, List, [], ◌∷◌, ◌++◌, Option, None, Some, inl, inr, refl, sym, ap, subst, ◌∙◌}
+use Rattle.std.proofs.Common.{◌≡◌, ℕ, Bool, true, false, List, Option, None, Some, inl, inr, refl, sym, ap, subst, ◌∙◌}
 use Rattle.std.specs.Prelude.{is_some, is_none, IfSome}
 use Rattle.std.proofs.lemmas.Option.{none-some}
 use Rattle.fs_doc.specs.Reading.{Configuration}
@@ -16,8 +16,7 @@ use Rattle.fs_machine.specs.declared.reply.Reply.TheVariants as reply
 use Rattle.fs_machine.specs.Controlling.{dial_at}
 use Rattle.fs_machine.specs.Step.{refusal_of, refused_where, IsRefusedFor}
 use Rattle.fs_machine.specs.Turned.{opens}
-use Rattle.fs_session.specs.declared.talked.Talked.{Talked}
-use Rattle.fs_session.specs.Talking.{talked_by, talked, Counts, Dials, Tells, MayCount, Talks}
+use Rattle.fs_session.specs.Talking.{talked_by, talked, Counts, MayCount, Talks}
 use Rattle.fs_session.specs.Working.{is_final, Gained}
 use Rattle.fs_session.proofs.UnlinkedLemmas.{unlinked_opens_none}
 

@@ -1,18 +1,14 @@
 -- What a turn that is refused tells, to whom it is due, and what comes of several tries.
-use Rattle.std.proofs.Common.{◌≡◌, ◌≢◌, ℕ, Bool, true, false, List, [], ◌∷◌, ◌++◌, Option, None, Some, Result, Ok, Err, refl, sym, ap, subst, ◌∙◌}
-use Rattle.std.specs.Prelude.{◌&&◌, ◌==◌, if◌then◌else◌, count_by, is_some, is_none}
-use Prim.Native.Nat.{zero, suc}
+use Rattle.std.proofs.Common.{◌≡◌, ◌≢◌, ℕ, Bool, true, false, List, [], ◌∷◌, ◌++◌, Option, None, Some, Ok, Err, refl, sym, ap, subst, ◌∙◌}
+use Rattle.std.specs.Prelude.{◌&&◌, ◌==◌, if◌then◌else◌, count_by, is_some}
+use Prim.Native.Nat.{suc}
 use mathlib.Core.List.{IsPrefix}
 use Rattle.fs_doc.specs.Reading.{Configuration}
 use Rattle.fs_text.specs.Texts.{Text}
-use Rattle.fs_out.specs.Targets.{target_of}
-use Rattle.fs_out.specs.declared.target.Target.{Target}
 use Rattle.fs_book.proofs.Lists.{prefix_trans}
 use Rattle.fs_chan.specs.declared.due.Due.{Due as Moment}
 use Rattle.fs_chan.specs.declared.due.Due.TheVariants.{Now, At}
-use Rattle.fs_seats.specs.declared.numbered.Numbered.{Numbered}
 use Rattle.fs_seats.specs.Seats.{held_in}
-use Rattle.fs_state.specs.declared.job.Job.{Job}
 use Rattle.fs_state.specs.Switch.{Switch, chan_at, is_full, at_moment}
 use Rattle.fs_machine.specs.declared.entry.Entry.{Entry}
 use Rattle.fs_machine.specs.declared.entry.Act.{Act}
@@ -26,7 +22,7 @@ use Rattle.fs_machine.specs.Due.{next_slot, next_job, slot_due, dials, due_job, 
 use Rattle.fs_machine.specs.Laws.{state_after}
 use Rattle.fs_machine.specs.Questions.{jobs_left}
 use Rattle.fs_machine.specs.Sound.{IsSound}
-use Rattle.fs_machine.specs.Step.{refusal_of, refused_as_full, refused_where, IsRefusedFor}
+use Rattle.fs_machine.specs.Step.{refused_as_full, refused_where, IsRefusedFor}
 use Rattle.fs_machine.proofs.RefusalLemmas.{full_refused}
 use Rattle.fs_session.specs.declared.actor.Actor.{Actor}
 use Rattle.fs_session.specs.declared.actor.Actor.TheVariants.{Slot, Jobs}
@@ -37,7 +33,7 @@ use Rattle.fs_session.specs.declared.standing.Standing.TheVariants.{Full, Over, 
 use Rattle.fs_session.specs.declared.worked.Worked.{Worked}
 use Rattle.fs_session.specs.declared.worked.Worked.TheVariants.{Did, Idle, Talk, Stopped, Refused}
 use Rattle.fs_session.specs.Working.{is_final, is_over, sought_by, due_of, seeking, standing, standing_unless, act_of, IsErrand, errand_of}
-use Rattle.fs_session.specs.Working.{IsTurnOf, Talks, Gained, Stays, Stands, Sought, Fails, Works, Tries, Attempts}
+use Rattle.fs_session.specs.Working.{IsTurnOf, Talks, Gained, Stays, Stands, Fails, Works, Tries, Attempts}
 
 no_rows : {T : Type 0} (rows : List (Option T)) → ((seat : ℕ) → held_in rows seat ≡ None) → count_by is_some rows ≡ 0
 no_rows [] none = refl

@@ -14,7 +14,6 @@ use Rattle.fs_frame.specs.declared.fault.Fault.TheVariants as faults
 use Rattle.fs_frame.specs.Blocks.{rest_of}
 use Rattle.fs_doc.specs.declared.settings.Settings.{Settings}
 use Rattle.fs_doc.specs.Reading.{Configuration, config_of}
-use Rattle.fs_doc.specs.declared.fault.DocKind.TheVariants.{Memory}
 use Rattle.fs_doc.specs.declared.fault.DocFault.{DocFault}
 use Rattle.fs_plan.specs.declared.fault.PlanFault.{PlanFault}
 use Rattle.fs_conn.specs.declared.end.End.{End}
@@ -25,7 +24,7 @@ use Rattle.fs_conn.specs.Ends.{IsFullAt, HasCause}
 use Rattle.fs_conn.proofs.LawLemmas.{settings_kept, ends_played}
 use Rattle.fs_conn.proofs.CauseLemmas.{cause_played}
 use Rattle.fs_top.specs.Told.{Told, Asked, Check, Hunt, Play, Load, file_asked, told_words, told_file, told_read, told_asked}
-use Rattle.fs_top.specs.Told.{refused, status_of_end}
+use Rattle.fs_top.specs.Told.{status_of_end}
 use Rattle.fs_top.specs.Runs.{line_of_outcome, status_of_outcome, CarriesOut, completes, fails_to_write, lacks_memory}
 use Rattle.fs_top.specs.Runs.{fails_for_memory, IsPlayed, Gives, LoadedAs, IsBuilt}
 use Rattle.fs_top.specs.Runs.{Runs, HasConfig, HasFault, HasRefusal, CountRose, FillsJournal, MeetsBadBlock}

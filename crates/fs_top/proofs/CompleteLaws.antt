@@ -1,6 +1,6 @@
--- What a run does where its words and its file are in order and no count rises.
-use Rattle.std.proofs.Common.{◌≡◌, ◌≢◌, ℕ, Bool, true, false, List, ◌∷◌, ◌++◌, length, All, Option, None, Some, Result, Ok, Err, ◌⊎◌, refl}
-use Rattle.std.proofs.Common.{sym, ap, ◌∙◌, subst, inl, inr, unwrap_or, arith}
+-- What a run does where its words and its file are in order and no count rises, and what a server does.
+use Rattle.std.proofs.Common.{◌≡◌, ◌≢◌, ℕ, zero, suc, ◌<◌, Bool, true, false, List, [], ◌∷◌, ◌++◌, length, All, Option, None, Some, Result, Ok, Err, ◌⊎◌, refl}
+use Rattle.std.proofs.Common.{sym, ap, ◌∙◌, subst, inl, inr, unwrap_or, slice_index_or, arith}
 use Rattle.std.proofs.lemmas.List.{length-append}
 use Rattle.std.proofs.Math.Seq.{get_or-append_seam}
 use Rattle.std.proofs.lemmas.List.Elements.{All-get_or}
@@ -8,7 +8,7 @@ use Rattle.fs_ports.specs.Counts.{raised}
 use Rattle.fs_ports.specs.Ports.{Input, Output}
 use Rattle.fs_ports.specs.Loads.{LoadCounts, Tells}
 use Rattle.fs_ports.specs.declared.files.Load.{Load as File}
-use Rattle.fs_ports.specs.declared.files.Load.TheVariants.{Got}
+use Rattle.fs_ports.specs.declared.files.Load.TheVariants.{Got, Absent, Failed}
 use Rattle.fs_doc.specs.Reading.{Configuration, config_of}
 use Rattle.fs_doc.specs.declared.fault.DocFault.{DocFault}
 use Rattle.fs_plan.specs.Building.{NumberedPattern, IsNoPattern, IsPlanRefusal}
@@ -17,6 +17,8 @@ use Rattle.fs_plan.specs.declared.fault.PlanFault.TheVariants.{PatternRefused, P
 use Rattle.fs_conn.specs.Turns.{HasRead}
 use Rattle.fs_top.specs.Told.{Told, Asked, file_asked, told_words, told_read, told_asked}
 use Rattle.fs_top.specs.Runs.{CarriesOut, completes, fails_to_write, lacks_memory, fails_for_memory, Completes, BreaksForMemory}
+use Rattle.fs_top.specs.Doors.{Rose}
+use Rattle.fs_top.specs.Serving.{IsNoDocument, IsUnread, IsServable, NoneFailed, IsStatus, IsGoodStatus}
 use Rattle.fs_top.specs.Runs.{RefusesPattern, IsPlayed, Gives, IsTold, IsBuilt, Ran, HasReadings, IsGiven, NoneRose, DoesAll}
 use Rattle.fs_top.proofs.CauseLaws.{failed_read}
 
@@ -118,3 +120,47 @@ complete asked next_load counts0 counts1 sizes0 sizes1 in0 in1 out0 out1 err0 er
           (subst (λ (t : Told). CarriesOut t ran.to out0 out1 ran.line status) told ran.does);
       said = ran.said;
     }
+
+-- ---- servers
+
+-- The statuses of a server that have another cause do not come.
+module _ (next_load : List ℕ → Option File) (name : List ℕ) (counts0 counts1 : LoadCounts) (sizes0 sizes1 doors0 doors1 code : ℕ)
+    (document : code ≡ 3 → IsNoDocument next_load name sizes0 sizes1) (unread : code ≡ 4 → IsUnread next_load name counts0 counts1)
+    (door : code ≡ 7 → Rose doors0 doors1) (c : Configuration) (servable : IsServable next_load name c)
+    (none : NoneFailed sizes0 sizes1 doors0 doors1) where
+  is_given : (file : File) → Tells (next_load name) file → file ≡ Got servable.bytes
+  is_given file told = tells_is (next_load name) file servable.bytes servable.told told
+
+  got_given : (bytes : List ℕ) → Tells (next_load name) (Got bytes) → bytes ≡ servable.bytes
+  got_given bytes told = let e = is_given (Got bytes) told in cc e
+
+  is_document : IsNoDocument next_load name sizes0 sizes1 → ⊥
+  is_document (inl (fault, faulty)) =
+      let read : config_of servable.bytes ≡ Err fault = ap config_of (sym (got_given faulty.bytes faulty.told)) ∙ faulty.reads in
+      let both : Ok c ≡ Err fault = sym servable.reads ∙ read in
+      absurd (cc both)
+  is_document (inr (fault, unbuilt)) =
+      let read : config_of servable.bytes ≡ Ok unbuilt.config =
+      ap config_of (sym (got_given unbuilt.is.bytes unbuilt.is.told)) ∙ unbuilt.is.reads in
+      refuses_none c fault sizes0 sizes1 servable.readings none.sizes
+      (subst (λ (d : Configuration). RefusesPattern d.contexts fault sizes0 sizes1) (read_once servable.bytes c unbuilt.config servable.reads read)
+      unbuilt.refused)
+
+  is_read : IsUnread next_load name counts0 counts1 → ⊥
+  is_read it = by it.other
+    where
+      by : (it.file ≡ Absent) ⊎ (it.file ≡ Failed) → ⊥
+      by (inl absent) = let e : Absent ≡ Got servable.bytes = sym absent ∙ is_given it.file it.told in absurd (cc e)
+      by (inr failed) = let e : Failed ≡ Got servable.bytes = sym failed ∙ is_given it.file it.told in absurd (cc e)
+
+  pub serves_well : IsStatus code → IsGoodStatus code
+  serves_well there = by there.0 there.1 there.2
+    where
+      by : (k : ℕ) → k < 6 → slice_index_or (0 ∷ 1 ∷ 3 ∷ 4 ∷ 7 ∷ 8 ∷ []) k code ≡ code → IsGoodStatus code
+      by zero below is = (0, omega arith, is)
+      by (suc zero) below is = (1, omega arith, is)
+      by (suc (suc zero)) below is = absurd (is_document (document (sym is)))
+      by (suc (suc (suc zero))) below is = absurd (is_read (unread (sym is)))
+      by (suc (suc (suc (suc zero)))) below is = absurd (none.doors (door (sym is)))
+      by (suc (suc (suc (suc (suc zero))))) below is = (2, omega arith, is)
+      by (suc (suc (suc (suc (suc (suc k)))))) below is = absurd (omega (arith, below))

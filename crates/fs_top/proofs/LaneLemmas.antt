@@ -1,7 +1,7 @@
 -- What a lane keeps of its connections where its pass goes on.
-use Rattle.std.proofs.Common.{◌≡◌, ◌≢◌, ℕ, zero, suc, ◌+◌, ◌<◌, ◌≤◌, ◌⊎◌, inl, inr, Bool, List, [], ◌∷◌, ◌++◌, length, Option, None, Some, refl, sym}
+use Rattle.std.proofs.Common.{◌≡◌, ◌≢◌, ℕ, zero, suc, ◌<◌, ◌≤◌, ◌⊎◌, inl, inr, Bool, List, [], ◌∷◌, ◌++◌, length, Option, None, Some, refl, sym}
 use Rattle.std.proofs.Common.{ap, subst, ◌∙◌, cond, eqb, arith, append_assoc, append-nil, length-append}
-use Rattle.std.specs.Prelude.{slice_get, slice_index_or, take, map, if◌then◌else◌, is_some, true, false}
+use Rattle.std.specs.Prelude.{slice_get, slice_index_or, take, map, if◌then◌else◌, false}
 use Rattle.std.specs.List.{All, AllByRecursion, Contains}
 use Rattle.std.proofs.lemmas.Bool.{cases_eq}
 use Rattle.std.proofs.lemmas.Bool.Decides.{nat_tests}
@@ -15,9 +15,9 @@ use lib.ListN.{get_elem?}
 use native.Mathlib.Decide.{dec_lt}
 use Rattle.fs_doc.specs.Reading.{Configuration}
 use Rattle.fs_ports.specs.Ports.{Input, Output, IsNewLink}
-use Rattle.fs_book.specs.Counts.{times, total}
+use Rattle.fs_book.specs.Counts.{times}
 use Rattle.fs_book.specs.Numbered.{count_behind, by_history_once}
-use Rattle.fs_book.specs.Opened.{OpensAt, NamesAt, OwnsNumber, Owned, Quiet}
+use Rattle.fs_book.specs.Opened.{OpensAt, Owned, Quiet}
 use Rattle.fs_book.proofs.Lists.{prefix_trans, prefix_get, prefix_got, prefix_take, last_get, last_take, times_before, times_push, total_append}
 use Rattle.fs_book.proofs.Opening.{opens_up, owns_up}
 use Rattle.fs_book.proofs.Quiets.{quiet_places, quiet_owned}

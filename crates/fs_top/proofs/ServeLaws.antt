@@ -1,8 +1,8 @@
 -- What serving a file comes to: how a server ends, what its layers pass on, and what its statuses show.
-use Rattle.std.proofs.Common.{◌≡◌, ℕ, zero, suc, ◌+◌, ◌<◌, ◌≤◌, min, ◌⊎◌, inl, inr, ◌||◌, ◌&&◌, ◌==◌, Bool, true, false, cond, List, [], ◌∷◌, ◌++◌, length}
-use Rattle.std.proofs.Common.{Option, None, Some, Result, Ok, Err, refl, sym, ap, subst, ◌∙◌, arith}
-use Rattle.std.specs.Prelude.{is_some, map}
-use Rattle.std.specs.List.{All, Contains, list_any, count_by}
+use Rattle.std.proofs.Common.{◌≡◌, ℕ, zero, suc, ◌+◌, ◌<◌, ◌≤◌, min, ◌⊎◌, inl, inr, ◌||◌, ◌&&◌, ◌==◌, Bool, true, false, cond, List, [], ◌∷◌, ◌++◌}
+use Rattle.std.proofs.Common.{Option, None, Some, Ok, Err, refl, sym, ap, subst, ◌∙◌, arith}
+use Rattle.std.specs.Prelude.{is_some}
+use Rattle.std.specs.List.{All, list_any}
 use Rattle.std.proofs.lemmas.Bool.{cases_lt, or_parts, eqb-true}
 use Rattle.std.proofs.lemmas.List.{get_or_past}
 use Rattle.std.proofs.lemmas.List.Recursion.{is_count_by}
@@ -11,7 +11,7 @@ use Rattle.fs_ports.specs.Counts.{raised}
 use Rattle.fs_ports.specs.Ports.{Input, Output}
 use Rattle.fs_ports.specs.Loads.{LoadCounts, Tells, Counted}
 use Rattle.fs_ports.specs.declared.files.Load.{Load as File}
-use Rattle.fs_ports.specs.declared.files.Load.TheVariants.{Got, Absent, Failed}
+use Rattle.fs_ports.specs.declared.files.Load.TheVariants.{Absent, Failed}
 use Rattle.fs_doc.specs.Reading.{Configuration, config_of}
 use Rattle.fs_doc.specs.declared.fault.DocKind.TheVariants.{Memory}
 use Rattle.fs_doc.specs.declared.fault.DocFault.{DocFault}
@@ -23,26 +23,23 @@ use Rattle.fs_state.specs.Switch.{Switch, empty, is_full, chan_at}
 use Rattle.fs_machine.specs.declared.entry.Entry.{Entry}
 use Rattle.fs_machine.specs.declared.entry.Act.{Act}
 use Rattle.fs_machine.specs.declared.entry.Act.TheVariants.{Arrive, Command, Take, Close, Dialed, Work, Job, Halt}
-use Rattle.fs_machine.specs.declared.refusal.Refusal.{Refusal}
 use Rattle.fs_machine.specs.declared.refusal.Refusal.TheVariants as refusal
 use Rattle.fs_machine.specs.Laws.{state_after}
 use Rattle.fs_machine.specs.Questions.{live}
 use Rattle.fs_machine.specs.Runs.{run_from}
 use Rattle.fs_machine.specs.Step.{step, refused_as_full, refused_where}
 use Rattle.fs_machine.specs.Turned.{IsJournal}
-use Rattle.fs_conn.specs.declared.end.End.{End}
 use Rattle.fs_conn.specs.declared.end.End.TheVariants as ends
 use Rattle.fs_conn.specs.Ends.{IsFullAt}
 use Rattle.fs_top.specs.declared.conns.Conn.{Conn}
 use Rattle.fs_top.specs.declared.course.Course.{Course}
 use Rattle.fs_top.specs.declared.course.Course.TheVariants.{Run, DoorFault}
-use Rattle.fs_top.specs.declared.outcome.Outcome.{Outcome}
 use Rattle.fs_top.specs.declared.outcome.Outcome.TheVariants.{Usage, CannotRead, BadDocument, BadPattern, Printed, Ended}
 use Rattle.fs_top.specs.Doors.{Rose}
 use Rattle.fs_top.specs.Headline.{Headline, IsShutDown, is_halt, status_behind}
 use Rattle.fs_top.specs.Lanes.{Keeps, MayEnter, is_settled}
-use Rattle.fs_top.specs.Runs.{RefusesPattern, is_memory, not_read, not_built}
-use Rattle.fs_top.specs.Serving.{status_of_course, IsReadAs, IsUnread, IsFaulty, IsUnbuilt, IsNoDocument, Concludes, Ends, ServesConfig, no_machine}
+use Rattle.fs_top.specs.Runs.{is_memory, not_read, not_built}
+use Rattle.fs_top.specs.Serving.{status_of_course, IsReadAs, IsUnread, IsNoDocument, Concludes, Ends, ServesConfig, no_machine}
 use Rattle.fs_top.specs.Serving.{unheard, served, ServesBytes, no_config, faulty, unbuilt, configured, Serves, no_file, unread, read, IsStatus}
 
 -- ---- the door

@@ -1,5 +1,5 @@
 -- Dials in vain: how many entries tell of one, and how many a dialer counts.
-use Rattle.std.specs.Prelude.{◌≡◌, ◌⊎◌, ℕ, ◌+◌, ◌≤◌, ◌==◌, ◌&&◌, not, if◌then◌else◌, Bool, true, false, List, Option, None, Some, slice_get, count_by}
+use Rattle.std.specs.Prelude.{◌≡◌, ◌⊎◌, ℕ, ◌+◌, ◌≤◌, ◌==◌, ◌&&◌, not, if◌then◌else◌, Bool, false, List, Option, None, Some, slice_get, count_by}
 use Prim.Native.Nat.{suc}
 use Rattle.fs_book.specs.Counts.{total}
 use Rattle.fs_machine.specs.declared.entry.Entry.{Entry}

@@ -1,14 +1,14 @@
 -- What a server comes to: its journal is a run, and each connection was served over it.
-use Rattle.std.specs.Prelude.{◌≡◌, ℕ, ◌<◌, ◌⊎◌, ◌&&◌, nat_le, if◌then◌else◌, Bool, true, false, List, [], ◌∷◌, ◌++◌, Option, None, Some, is_some, map}
+use Rattle.std.specs.Prelude.{◌≡◌, ℕ, if◌then◌else◌, Bool, true, false, List, [], ◌∷◌, ◌++◌, None, is_some, map}
 use Rattle.std.specs.List.{All, list_any}
 use Rattle.fs_doc.specs.Reading.{Configuration}
 use Rattle.fs_ports.specs.Ports.{Input, Output, IsNewLink}
 use Rattle.fs_book.specs.Counts.{times}
 use Rattle.fs_book.specs.Opened.{OpensAt}
-use Rattle.fs_state.specs.Switch.{Switch, is_full, chan_at}
+use Rattle.fs_state.specs.Switch.{is_full, chan_at}
 use Rattle.fs_machine.specs.declared.entry.Entry.{Entry}
 use Rattle.fs_machine.specs.declared.entry.Act.{Act}
-use Rattle.fs_machine.specs.declared.entry.Act.TheVariants.{Arrive, Command, Take, Close, Work, Job, Halt}
+use Rattle.fs_machine.specs.declared.entry.Act.TheVariants.{Halt}
 use Rattle.fs_machine.specs.Laws.{state_after}
 use Rattle.fs_machine.specs.Turned.{IsJournal, opens}
 use Rattle.fs_conn.specs.declared.end.End.{End}

@@ -1,7 +1,8 @@
 -- What serving a file comes to, and the causes of its statuses.
-use Rattle.std.specs.Prelude.{◌≡◌, ◌⊎◌, ℕ, Bool, true, false, List, [], ◌∷◌, Option, None, Some, Ok, Err, codes}
+use Rattle.std.specs.Prelude.{◌≡◌, ◌≢◌, ◌⊎◌, ℕ, Bool, true, false, List, [], ◌∷◌, Option, Some, Ok, Err, codes}
 use Rattle.std.specs.List.{Contains, list_any}
 use Rattle.std.specs.Str.{bytes_eq}
+use Rattle.fs_ports.specs.Counts.{raised}
 use Rattle.fs_ports.specs.Ports.{Input, Output, SendDid}
 use Rattle.fs_ports.specs.declared.send.Sent.{Sent}
 use Rattle.fs_ports.specs.Loads.{LoadCounts, Tells, Counted}
@@ -15,15 +16,14 @@ use Rattle.fs_machine.specs.declared.entry.Entry.{Entry}
 use Rattle.fs_machine.specs.Laws.{state_after}
 use Rattle.fs_conn.specs.declared.end.End.TheVariants as ends
 use Rattle.fs_conn.specs.Ends.{IsFullAt}
-use Rattle.fs_top.specs.declared.outcome.Outcome.{Outcome}
-use Rattle.fs_top.specs.declared.outcome.Outcome.TheVariants.{Usage, CannotRead, BadDocument, BadPattern, Printed, Ended}
+use Rattle.fs_top.specs.declared.outcome.Outcome.TheVariants.{BadDocument, BadPattern, Printed, Ended}
 use Rattle.fs_top.specs.declared.course.Course.{Course}
 use Rattle.fs_top.specs.declared.course.Course.TheVariants.{Run, DoorFault}
 use Rattle.fs_top.specs.declared.conns.Conn.{Conn}
 use Rattle.fs_top.specs.Doors.{Rose}
 use Rattle.fs_top.specs.Headline.{Headline, IsShutDown, is_halt}
 use Rattle.fs_top.specs.Lanes.{MayEnter, is_settled}
-use Rattle.fs_top.specs.Runs.{RefusesPattern, line_of_outcome, status_of_outcome}
+use Rattle.fs_top.specs.Runs.{HasReadings, RefusesPattern, line_of_outcome, status_of_outcome}
 
 -- the words `serve FILE`
 abbrev pub is_serve : List (List ℕ) → Bool
@@ -136,6 +136,22 @@ pub data Serves {L : Type 0} (input : L → Input) (output : L → Output) (may 
   read : (bytes : List ℕ) → Tells (next_load name) (Got bytes)
       → ServesBytes input output may bytes sizes0 sizes1 doors0 doors1 course journal conns
       → Serves input output may next_load name counts0 counts1 sizes0 sizes1 doors0 doors1 course journal conns
+
+-- the file of this name is told, and its bytes are read as this configuration, whose patterns have readings
+pub record IsServable (next_load : List ℕ → Option File) (name : List ℕ) (config : Configuration) : Type 0 where
+  pub bytes : List ℕ
+  pub told : next_load name ≡ Some (Got bytes)
+  pub reads : config_of bytes ≡ Ok config
+  pub readings : HasReadings config
+
+-- no count rose: of patterns that were too large, or of what failed at the door
+pub record NoneFailed (sizes0 sizes1 doors0 doors1 : ℕ) : Type 0 where
+  pub sizes : sizes1 ≢ raised sizes0
+  pub doors : Rose doors0 doors1 → ⊥
+
+-- the server was shut down, its journal is full, or memory was wanting
+abbrev pub IsGoodStatus : ℕ → Type 0
+IsGoodStatus code = Contains (0 ∷ 1 ∷ 8 ∷ []) code
 
 -- the statuses that a server ends with
 abbrev pub IsStatus : ℕ → Type 0

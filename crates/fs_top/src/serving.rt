@@ -154,6 +154,13 @@ pub fn serve<
         × (is_full (state_after c result.journal.entries) ≡ true) }
     ensures codes { spec.IsStatus result.status.code }
 
+    // Where the file is told to be read as a configuration whose patterns have readings, and no count of files or of the
+    // door rose, the server was shut down, its journal is full, or memory was wanting.
+    ensures complete { (c : Configuration)
+        → spec.IsServable (F.next_load files.old) (spec.file_served words.now) c
+        → spec.NoneFailed (F.sizes files.old) (F.sizes files.new) (D.door_faults door.old) (D.door_faults door.new)
+        → spec.IsGoodStatus result.status.code }
+
     // The line of what it came to was printed on `err`, or a front of it.
     ensures said { spec.Says (E.output err.old) (E.output err.new) result.status.code }
 {

@@ -1,8 +1,7 @@
-use Rattle.std.proofs.Common.{◌≡◌, [], ◌∷◌, Some, refl, ◌∙◌, sym}
 use Rattle.fs_ports.specs.Ports.{IsNewLink}
 use Rattle.fs_book.specs.Passes.{seen, mine, met, opening_state}
 use Rattle.fs_machine.specs.Turned.{configured}
-use Rattle.fs_top.proofs.TalkLemmas.{opened_came, kept_stays, vain_nothing, kept_none, vain_one, kept_served, vain_served}
+use Rattle.fs_top.proofs.TalkLemmas.{opened_came, kept_none, vain_one, kept_served, vain_served}
 use Rattle.fs_top.proofs.dialing.dial.Goals as goal
 
 pub serve_beside-requires-clause-owns : goal.serve_beside-requires-clause-owns

@@ -1,9 +1,9 @@
-use Rattle.std.proofs.Common.{◌≡◌, ℕ, ◌+◌, List, [], ◌∷◌, ◌++◌, Some, ◌∙◌, arith, ap, sym, subst, append-nil}
-use Rattle.fs_book.specs.Passes.{seen, mine, met, parts, opening_state}
+use Rattle.std.proofs.Common.{◌≡◌, ℕ, ◌+◌, ◌∷◌, ◌++◌, Some, ◌∙◌, arith, ap, sym, subst, append-nil}
+use Rattle.fs_book.specs.Passes.{seen, mine, met, opening_state}
 use Rattle.fs_machine.specs.Turned.{configured}
 use Rattle.fs_top.specs.Dials.{vain_in, HasRisen}
 use Rattle.fs_top.specs.Lanes.{Enters}
-use Rattle.fs_top.specs.Standing.{vain_of, conns_of}
+use Rattle.fs_top.specs.Standing.{conns_of}
 use Rattle.fs_top.proofs.GatherLemmas.{keeps_joined}
 use Rattle.fs_top.proofs.VainLemmas.{vain_met, vain_same, risen_more}
 use Rattle.fs_top.proofs.dialing.talk.Goals as goal

@@ -1,4 +1,4 @@
-use Rattle.std.proofs.Common.{ℕ, ◌∙◌, sym, subst}
+use Rattle.std.proofs.Common.{ℕ, ◌∙◌, subst}
 use Rattle.fs_top.specs.Standing.{SlotStands}
 use Rattle.fs_top.proofs.StandLemmas.{failed_as}
 use Rattle.fs_top.proofs.dialing.work_slot.Goals as goal

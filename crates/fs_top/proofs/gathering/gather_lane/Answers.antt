@@ -1,7 +1,5 @@
-use Rattle.std.proofs.Common.{◌≡◌, ◌∷◌, sym, subst}
+use Rattle.std.proofs.Common.{subst}
 use Rattle.std.proofs.lemmas.Result.{on_ok_weaker}
-use Rattle.fs_book.specs.Passes.{seen, mine, met}
-use Rattle.fs_top.specs.Dials.{vain_in, AreBounded}
 use Rattle.fs_top.specs.Standing.{HasFailed}
 use Rattle.fs_top.proofs.gathering.gather_lane.Goals as goal
 

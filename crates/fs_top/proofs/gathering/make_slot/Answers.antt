@@ -1,4 +1,4 @@
-use Rattle.std.proofs.Common.{◌≡◌, ◌∷◌, [], Some, refl, inl, sym, ap, subst}
+use Rattle.std.proofs.Common.{◌≡◌, ◌∷◌, [], Some, refl, inl, sym, subst}
 use Rattle.fs_book.specs.Passes.{seen, mine, met, opening_state}
 use Rattle.fs_machine.specs.Turned.{configured}
 use Rattle.fs_top.specs.Dials.{vain_in, HasRisen}

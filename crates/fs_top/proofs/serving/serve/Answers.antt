@@ -1,4 +1,5 @@
 use Rattle.std.proofs.Common.{sym, ◌∙◌}
+use Rattle.fs_top.proofs.CompleteLaws.{serves_well}
 use Rattle.fs_top.proofs.ServeLaws.{serves_headline, serves_shut, serves_document, serves_unread_file, serves_door, serves_full, serves_codes}
 use Rattle.fs_top.proofs.serving.serve.Goals as goal
 
@@ -31,3 +32,11 @@ returns-clause-full g c =
 
 pub returns-clause-codes : goal.returns-clause-codes
 returns-clause-codes g c = rw c.status-code.ensures (serves_codes _ _ _ _ _ _ _ _ _ _ _ _ _ _ c.serve_file-ran.ensures.serves)
+
+pub returns-clause-complete : goal.returns-clause-complete
+returns-clause-complete g c = λ config servable none.
+    let serves = c.serve_file-ran.ensures.serves in
+    rw c.status-code.ensures
+    (serves_well _ _ _ _ _ _ _ _ _ (rw c.file_of-name.ensures at (serves_document _ _ _ _ _ _ _ _ _ _ _ _ _ _ serves))
+    (rw c.file_of-name.ensures at (serves_unread_file _ _ _ _ _ _ _ _ _ _ _ _ _ _ serves))
+    (serves_door _ _ _ _ _ _ _ _ _ _ _ _ _ _ serves) config servable none (serves_codes _ _ _ _ _ _ _ _ _ _ _ _ _ _ serves))

@@ -1,8 +1,7 @@
-use Rattle.std.proofs.Common.{◌≡◌, List, map, sym, subst}
+use Rattle.std.proofs.Common.{List, map, sym, subst}
 use Rattle.fs_machine.specs.declared.entry.Entry.{Entry}
 use Rattle.fs_top.specs.Dials.{vain_dials, AreBounded}
 use Rattle.fs_top.specs.Serving.{no_machine}
-use Rattle.fs_top.proofs.ServeLaws.{ends_settled, serves_ended}
 use Rattle.fs_top.proofs.serving.serve_machine.Goals as goal
 
 pub returns-in-Err-clause-serves : goal.returns-in-Err-clause-serves

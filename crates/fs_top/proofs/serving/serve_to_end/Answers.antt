@@ -1,4 +1,4 @@
-use Rattle.std.proofs.Common.{◌≡◌, ◌∙◌, ◌∷◌, None, length, sym, ap, arith}
+use Rattle.std.proofs.Common.{◌∙◌, ◌∷◌, None, length, sym, ap, arith}
 use Rattle.std.proofs.lemmas.Option.{none-some}
 use Rattle.fs_book.specs.Passes.{seen, mine, met, parts, opening_state}
 use Rattle.fs_machine.specs.Turned.{configured}

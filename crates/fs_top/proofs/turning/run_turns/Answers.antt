@@ -1,4 +1,4 @@
-use Rattle.std.proofs.Common.{◌∙◌, refl}
+use Rattle.std.proofs.Common.{◌∙◌}
 use Rattle.fs_book.specs.Passes.{seen, mine, met}
 use Rattle.fs_top.specs.Lanes.{slot_of}
 use Rattle.fs_top.proofs.LaneLemmas.{keeps_worked}

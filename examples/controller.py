@@ -11,7 +11,8 @@ class Call(socketserver.StreamRequestHandler):
         self.command("sendmsg\ncall-command: execute\nexecute-app-name: answer")
         self.command("exit")
         notice = self.frame()
-        print(channel["Unique-ID"], channel["Channel-Name"], notice["Controlled-Session-UUID"], flush=True)
+        sys.stdout.write(f"{channel['Unique-ID']} {channel['Channel-Name']} {notice['Controlled-Session-UUID']}\n")
+        sys.stdout.flush()
 
     def command(self, text):
         self.wfile.write(f"{text}\n\n".encode())
@@ -26,8 +27,11 @@ class Call(socketserver.StreamRequestHandler):
         return headers
 
 
+class Controller(socketserver.ThreadingTCPServer):
+    allow_reuse_address = True
+    request_queue_size = 128
+
+
 if __name__ == "__main__":
-    socketserver.ThreadingTCPServer.allow_reuse_address = True
-    port = int(sys.argv[1]) if sys.argv[1:] else 8084
-    with socketserver.ThreadingTCPServer(("127.0.0.1", port), Call) as server:
-        server.serve_forever()
+    with Controller(("127.0.0.1", int(sys.argv[1]) if sys.argv[1:] else 8084), Call) as controller:
+        controller.serve_forever()

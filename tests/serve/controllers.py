@@ -150,8 +150,9 @@ def held(program, count=15):
 
 
 def listen(controller):
-    controller.command("event plain CHANNEL_EXECUTE_COMPLETE")
+    """Subscribes what tells of its own channel. The filter comes first, so that nothing of others comes in between."""
     controller.command(f"filter Unique-ID {controller.identifier}")
+    controller.command("event plain CHANNEL_EXECUTE_COMPLETE")
 
 
 def told(controller, application):

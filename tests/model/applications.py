@@ -1,7 +1,7 @@
 """The applications that a channel runs as its actions."""
 
 import queues
-from channels import Wait
+from channels import Target, Wait
 from dialing import DialFault, read_dial_string
 from dialplan import INLINE, assign
 from hangups import by_slot, hang_up, leave
@@ -173,18 +173,21 @@ def is_limit(words):
 
 
 def run_socket(switch, channel, argument):
-    """The channel waits for a connection to its first word. Where that is no target it goes on at once."""
-    if is_target((words_of(argument) or [""])[0]):
-        channel.wait_for(Wait.CONNECTION)
-    else:
+    """The channel waits for a dial. Where its first word is no target, or a controller holds it, it goes on at once."""
+    target = read_target(words_of(argument))
+    if target is None or channel.controller:
         switch.complete(channel)
+    else:
+        channel.wait_for(Wait.DIAL, target=target)
 
 
-def is_target(text):
-    """A host and a port from 1 to 65,535, parted by the last colon."""
-    host, _, port = text.rpartition(":")
+def read_target(words):
+    """A host and a port from 1 to 65,535, parted by the last colon of the first word. `full` stands anywhere behind it."""
+    host, _, port = (words or [""])[0].rpartition(":")
     number = read_number(port)
-    return host != "" and number is not None and 1 <= number <= LAST_PORT
+    if host == "" or number is None or not 1 <= number <= LAST_PORT:
+        return None
+    return Target(host, number, "full" in words[1:])
 
 
 APPLICATIONS = {

@@ -17,7 +17,17 @@ class Wait(Enum):
     COMMANDS = 4
     QUEUE = 5
     CALLER = 6
-    CONNECTION = 7
+    DIAL = 7
+    CONTROLLER = 8
+
+
+@dataclass(frozen=True)
+class Target:
+    """Whom a channel asks for, and whether that controller may do all."""
+
+    host: str
+    port: int
+    full: bool
 
 
 @dataclass
@@ -62,6 +72,8 @@ class Channel:
     actions: list = field(default_factory=list)
     messages: list = field(default_factory=list)
     running: tuple = None
+    target: Target = None
+    controller: object = None
 
     @property
     def identifier(self):
@@ -79,16 +91,20 @@ class Channel:
         """Commands can move a channel that has been set up and is no leg that is not decided yet."""
         return self.state not in (State.CS_NEW, State.CS_INIT) and self.leg is None
 
-    def wait_for(self, wait, wakes=0, dialed=None, queue=None):
-        """A taker waits for a caller of a queue."""
+    def wait_for(self, wait, wakes=0, dialed=None, queue=None, target=None):
+        """A taker waits for a caller of a queue, and who asks for a controller for a dial."""
         self.wait = wait
         self.wakes = wakes
         self.dialed = dialed
         self.queue = queue
+        self.target = target
 
     def rest(self):
-        """A parked channel waits for commands, any other one for nothing."""
-        self.wait_for(Wait.COMMANDS if self.state is State.CS_PARK else Wait.NOTHING)
+        """A channel that is held waits for its controller, a parked one for commands, any other one for nothing."""
+        if self.controller:
+            self.wait_for(Wait.CONTROLLER)
+        else:
+            self.wait_for(Wait.COMMANDS if self.state is State.CS_PARK else Wait.NOTHING)
 
     def drop_actions(self):
         self.actions = []

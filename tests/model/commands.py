@@ -5,7 +5,8 @@ from dataclasses import replace
 
 import api
 from dialplan import Action
-from frames import Names, Subscription, api_response, command_reply, known_names
+from deliveries import Outbox
+from frames import Names, Subscription, api_response, command_reply, known_names, notice
 from hangups import hang_up
 from jobs import MOST_JOBS
 from tables import cause_or, words_of
@@ -18,15 +19,22 @@ GIVEN_NAME_OF_JOB = re.compile("[!-~]{1,64}")
 
 
 class Connection:
+    """A client that came by itself. It has no channel of its own."""
+
+    own_channel = ""
+
     def __init__(self, switch):
         self.switch = switch
+        self.outbox = Outbox()
         self.accepted = False
         self.ended = False
+        self.left = False
         self.listening = False
         self.subscription = Subscription()
 
     def frames_for(self, block):
         """The frames that reply to a command at once: none where its answer is owed."""
+        self.switch.asking = self
         word = block.line.partition(" ")[0]
         if word == "exit":
             return [self.exit()]
@@ -42,6 +50,18 @@ class Connection:
         """What a connection subscribed ends with it."""
         self.ended = True
         self.subscription = Subscription()
+
+    def leave(self):
+        """The end of its input."""
+        self.left = True
+        self.end()
+
+    def lost(self):
+        """It ends with the switch."""
+        return self.switch.stopping
+
+    def notice(self):
+        return notice()
 
     def exit(self):
         self.end()
@@ -68,7 +88,7 @@ class Connection:
 
     def sendmsg(self, block):
         """A channel is told to run an application before its next action, or is hung up at once."""
-        named = (words_of(block.rest) or [""])[0]
+        named = (words_of(block.rest) or [self.own_channel])[0]
         channel = self.switch.find(named)
         if channel is None:
             return f"-ERR invalid session id [{named}]"

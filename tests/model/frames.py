@@ -12,10 +12,7 @@ ESCAPED_IN_STRINGS = {chr(code): f"\\u{code:04x}" for code in range(32)} | {
 
 AUTH_REQUEST = "Content-Type: auth/request\n\n"
 
-NOTICE = (
-    "Content-Type: text/disconnect-notice\nContent-Length: 67\n\n"
-    "Disconnected, goodbye.\nSee you at ClueCon! http://www.cluecon.com/\n"
-)
+GOODBYE = "Disconnected, goodbye.\nSee you at ClueCon! http://www.cluecon.com/\n"
 
 
 def escape(text):
@@ -26,8 +23,13 @@ def escape(text):
     )
 
 
-def command_reply(text):
-    return f"Content-Type: command/reply\nReply-Text: {text}\n\n"
+def command_reply(text, further=""):
+    """A reply may have further lines behind its text."""
+    return f"Content-Type: command/reply\nReply-Text: {text}\n{further}\n"
+
+
+def notice(further=""):
+    return f"Content-Type: text/disconnect-notice\n{further}Content-Length: {len(GOODBYE)}\n\n{GOODBYE}"
 
 
 def api_response(text):

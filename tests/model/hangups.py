@@ -1,6 +1,6 @@
 """The hangup closure: who is hung up with whom, of what, and what is told of it.
 
-And how a channel leaves its bridge, its legs and its queue, and lives on.
+And how a channel leaves its bridge, its legs, its queue and its controller, and lives on.
 """
 
 import bridges
@@ -93,6 +93,7 @@ def hang_up_one(switch, channel, cause):
     switch.holds.release(channel)
     channel.drop_actions()
     channel.messages = []
+    channel.controller = None
     channel.wait_for(Wait.NOTHING)
     switch.enter(channel, State.CS_HANGUP)
 
@@ -111,6 +112,7 @@ def leave(switch, channels):
     for channel in by_slot(channels):
         queues.leave(switch, channel)
         channel.drop_actions()
+        channel.controller = None
         channel.rest()
 
 

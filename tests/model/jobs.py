@@ -10,9 +10,10 @@ MOST_JOBS = 1024
 
 @dataclass
 class Job:
-    """Its answer is owed to the client, or is told by an event that has these headers."""
+    """Its answer is owed to a connection, or is told by an event that has these headers."""
 
     headers: tuple = None
+    owed_to: object = None
     task: object = None
 
     def owed(self):

@@ -1,12 +1,12 @@
 """The play of one connection: its entries and what they cost, the clock, and the frames that are written."""
 
-from collections import Counter, deque
 from dataclasses import dataclass
 from functools import partial
 
 from blocks import LONGEST_BLOCK, BlockFault, Stream
 from commands import Connection
-from frames import AUTH_REQUEST, NOTICE, api_response, event_frame, event_headers
+from deliveries import Deliveries
+from frames import AUTH_REQUEST
 from reloads import same_again
 from switch import Switch
 
@@ -14,7 +14,6 @@ COST_OF_ENTRY = 64
 LARGEST_COST = COST_OF_ENTRY + LONGEST_BLOCK
 LONGEST_DOCUMENT = 1048576
 LARGEST_LOAD = COST_OF_ENTRY + LONGEST_DOCUMENT + 1
-MOST_WAITING_EVENTS = 10000
 MOST_AT_ONE_MOMENT = 100000
 
 
@@ -68,14 +67,6 @@ class Result:
         return f"{self.output}\nstatus {self.status}\n{self.error}"
 
 
-@dataclass(frozen=True)
-class Waiting:
-    """A frame that waits to be written."""
-
-    text: str
-    of_event: bool = False
-
-
 class Session:
     def __init__(self, document, coming=False, loads=None):
         """Whenever the file is read again it has the document, unless there are other loads to come."""
@@ -83,10 +74,8 @@ class Session:
         self.switch = Switch(document, self.journal, coming, loads or same_again(document))
         self.stream = Stream()
         self.connection = Connection(self.switch)
-        self.waiting = deque()
-        self.waiting_events = 0
-        self.events_told = Counter()
-        self.hangups = Counter()
+        self.deliveries = Deliveries(self.switch)
+        self.deliveries.connections.append(self.connection)
         self.written = []
         self.enter(lambda: [AUTH_REQUEST])
         self.run()
@@ -94,6 +83,14 @@ class Session:
     @property
     def ended(self):
         return self.connection.ended
+
+    @property
+    def events_told(self):
+        return self.deliveries.events_told
+
+    @property
+    def hangups(self):
+        return self.deliveries.hangups
 
     def feed(self, text):
         """More of the input. Each command that is whole is done, and all that is to be done behind it."""
@@ -113,45 +110,19 @@ class Session:
     def close(self):
         """The end of the input, or of a connection that has ended, is an entry too."""
         if not self.ended:
-            self.enter(lambda: [])
+            self.enter(self.connection.leave)
             self.write_waiting()
         self.journal.enter()
 
     def enter(self, do, block_length=0):
-        """One entry, which may give replies. Its events go by what was subscribed before it.
-
-        Behind them come an answer that was owed, and the notice that the connection ends.
-        """
+        """One entry, which may give replies."""
         self.journal.enter(block_length)
-        self.switch.begin_entry()
-        ended_before, subscription = self.ended, self.connection.subscription
-        self.waiting.extend(Waiting(reply) for reply in do() or ())
-        for event in self.switch.events_of_entry():
-            self.send(event, subscription)
-        if self.switch.answer_owed is not None:
-            self.waiting.append(Waiting(api_response(self.switch.answer_owed)))
-        if self.switch.stopping:
-            self.connection.end()
-        if self.ended and not ended_before:
-            self.waiting.append(Waiting(NOTICE))
-
-    def send(self, event, subscription):
-        """An event that the connection wants is lost where 10,000 of them wait."""
-        self.events_told[event.name] += 1
-        if event.name == "CHANNEL_HANGUP":
-            self.hangups[event.channel.cause] += 1
-        if not subscription.names.has(event):
-            return
-        headers = event_headers(event, self.events_told.total(), self.switch.now)
-        if subscription.lets_through(headers) and self.waiting_events < MOST_WAITING_EVENTS:
-            self.waiting_events += 1
-            frame = event_frame(headers, event.body, subscription.form)
-            self.waiting.append(Waiting(frame, of_event=True))
+        self.deliveries.enter(do, self.connection)
 
     def run(self):
         """Does all that is due. While a reply is owed the clock goes on. Then what waits is written."""
         self.settle()
-        while self.switch.owes():
+        while self.switch.owes(self.connection):
             self.switch.advance()
             self.settle()
         self.write_waiting()
@@ -167,11 +138,10 @@ class Session:
 
     def write_waiting(self):
         """Each frame that is taken is an entry of its own."""
-        while self.waiting:
+        outbox = self.connection.outbox
+        while outbox.waiting:
             self.journal.enter()
-            frame = self.waiting.popleft()
-            self.waiting_events -= frame.of_event
-            self.written.append(frame.text)
+            self.written.append(outbox.take())
 
     def play(self, pieces):
         """The result of a play whose input has these pieces, which may be chosen as it goes on."""

@@ -34,7 +34,7 @@ class Event:
 
 
 class Switch:
-    """One entry at a time changes it. The entry in hand collects its events, and an answer that was owed.
+    """One entry at a time changes it. The entry in hand collects its events, and the answers that were owed.
 
     A switch to which `coming` is said knows what is still to come.
     """
@@ -55,7 +55,8 @@ class Switch:
         self.entry = 0
         self.events = []
         self.ends_of_jobs = []
-        self.answer_owed = None
+        self.answers = {}
+        self.asking = None
         self.job_in_hand = None
         self.stopping = False
         self.jobs_begun = 0
@@ -66,7 +67,7 @@ class Switch:
         self.entry += 1
         self.events = []
         self.ends_of_jobs = []
-        self.answer_owed = None
+        self.answers = {}
 
     def events_of_entry(self):
         """How a job ended is told last."""
@@ -100,9 +101,9 @@ class Switch:
         self.channels[far.slot] = far
 
     def begin_job(self, headers=None):
-        """The number of a new job. Without headers its answer is owed to the client."""
+        """The number of a new job. Without headers its answer is owed to the connection that asks for it."""
         self.jobs_begun += 1
-        self.jobs[self.jobs_begun] = Job(headers)
+        self.jobs[self.jobs_begun] = Job(headers, None if headers else self.asking)
         return self.jobs_begun
 
     def end_job(self, number, answer):
@@ -110,19 +111,18 @@ class Switch:
 
     def give_answer(self, job, answer):
         if job.owed():
-            self.answer_owed = answer
+            self.answers[job.owed_to] = answer
         else:
             self.ends_of_jobs.append(Event("BACKGROUND_JOB", further=job.headers, body=answer))
 
-    def owes(self):
-        return any(job.owed() for job in self.jobs.values())
+    def owes(self, connection):
+        return any(job.owed_to is connection for job in self.jobs.values())
 
     def shut_down(self):
         """All live channels are hung up in one hangup. No job and no task is left, and what was owed is answered."""
         hang_up(self, dict.fromkeys(self.live_channels(), "SYSTEM_SHUTDOWN"))
         self.tell("SHUTDOWN", further=[("Event-Info", "System Shutting Down")])
-        if self.owes():
-            self.answer_owed = "-ERR SYSTEM_SHUTDOWN\n"
+        self.answers = {job.owed_to: "-ERR SYSTEM_SHUTDOWN\n" for job in self.jobs.values() if job.owed()}
         self.jobs = {}
         self.tasks = Tasks()
         self.stopping = True
@@ -139,10 +139,10 @@ class Switch:
         self.tell("CHANNEL_STATE", channel)
 
     def park(self, channel):
-        """The channel drops its actions and waits for commands."""
+        """The channel drops its actions and waits for its controller, or for commands."""
         channel.drop_actions()
-        channel.wait_for(Wait.COMMANDS)
         self.enter(channel, State.CS_PARK)
+        channel.rest()
 
     def complete(self, channel):
         """What the channel runs is over, and it goes on."""
@@ -165,9 +165,9 @@ class Switch:
             return self.now
         if channel.state not in STATES_OF_ACTIONS:
             return None
-        if channel.wait in (Wait.NOTHING, Wait.CONNECTION):
+        if channel.wait in (Wait.NOTHING, Wait.DIAL):
             return self.now
-        if channel.wait is Wait.COMMANDS:
+        if channel.wait in (Wait.COMMANDS, Wait.CONTROLLER):
             return self.now if channel.messages else None
         if channel.wait is Wait.SLEEP:
             return max(self.now, channel.wakes)
@@ -240,9 +240,9 @@ def route(switch, channel):
 def go_on(switch, channel):
     """A channel that executes wakes, decides its race, takes a caller, or runs its next message or action.
 
-    Where it has none of them it is hung up. In a play no connection can be had: who waits for one goes on.
+    Where it has none of them it is hung up. Who waits for a dial goes on: work is what comes of a dial in vain.
     """
-    if channel.wait in (Wait.SLEEP, Wait.CONNECTION):
+    if channel.wait in (Wait.SLEEP, Wait.DIAL):
         switch.complete(channel)
     elif channel.wait is Wait.CALLER:
         take(switch, channel, channel.queue)

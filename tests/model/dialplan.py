@@ -16,6 +16,7 @@ WRITTEN = {
 }
 
 USUAL_PASSWORD = "ClueCon"
+USUAL_CONNECTIONS = 16
 
 INLINE = ("set", "unset", "export", "set_global", "log", "eval")
 
@@ -53,6 +54,7 @@ class Document:
     password: str = USUAL_PASSWORD
     time_base: int = 0
     time_offset: int = 0
+    connections: int = USUAL_CONNECTIONS
 
     def written(self):
         inside = [*self._globals(), *self._settings(), *self._dialplan()]
@@ -64,9 +66,10 @@ class Document:
 
     def _settings(self):
         yield '<section name="configuration">'
-        if self.password != USUAL_PASSWORD:
+        if self.password != USUAL_PASSWORD or self.connections != USUAL_CONNECTIONS:
             yield '<configuration name="event_socket.conf"><settings>'
-            yield f'<param name="password" value="{attribute(self.password)}"/></settings></configuration>'
+            yield f'<param name="password" value="{attribute(self.password)}"/>'
+            yield f'<param name="max-connections" value="{self.connections}"/></settings></configuration>'
         yield '<configuration name="switch.conf"><settings>'
         yield f'<param name="max-sessions" value="{self.slots}"/>'
         yield f'<param name="journal-limit" value="{self.journal_limit}"/>'

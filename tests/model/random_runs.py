@@ -1,0 +1,291 @@
+"""Random runs of entries, of channels that controllers hold beside calls, jobs and clients.
+
+Extensions ask for controllers amid other applications. Clients make calls, and move, join, kill and tell channels;
+controllers tell their own channel and others, subscribe and filter, ask for api commands whether they may or not, and
+part in every way. Whatever is due is worked in any order, and frames are taken now or later. A step is chosen when
+those before it were made.
+"""
+
+from itertools import takewhile
+
+from channels import Wait
+from controllers import Controller
+from dialplan import Action, Extension
+from further import parked
+from random_plays import ANSWER, PARK, any_channel, bridged, waits
+from sockets import Dialing
+from tables import EVENTS
+from waiting import queued, taking
+
+
+def held(channel):
+    return channel.controller is not None
+
+
+def rests_with_controller(channel):
+    return channel.wait is Wait.CONTROLLER
+
+
+def may_be_heard(frame):
+    return frame.of_event and "Event-Name: BACKGROUND_JOB" not in frame.text or "Unique-ID: " not in frame.text
+
+
+def may_be_cut(text):
+    return "\nJob-UUID: " not in text and "\nSocket-Mode: " not in text
+
+
+def with_line_ends_in_body(line):
+    """A command is said with an empty line. Where it has a body, the two line ends are the end of that."""
+    head, gap, body = line.partition("\n\n")
+    return head.replace(f"Content-Length: {len(body)}", f"Content-Length: {len(body) + 2}") + gap + body
+
+
+def socket(data):
+    return Action("socket", data)
+
+
+class Controlled(Dialing):
+    """The steps of a run, each of which is possible, but for a few that are refused."""
+
+    fewest_steps = 30
+    most_steps = 350
+
+    FULL = ("h:9 full", "127.0.0.1:9999 async full", "h:1 x full async", "::1:8084 full full")
+    SINGLE = ("h:9", "h:9 async", "h:80 FULL", "pbx:0080 fully", "h:9 full,")
+    ASKING = (
+        Extension("sock", (socket(FULL[1]), ANSWER, PARK)),
+        Extension("own", (socket(SINGLE[0]), ANSWER, PARK)),
+        Extension("held", (ANSWER, socket(FULL[0]), Action("set", "k=v"), PARK)),
+        Extension("two", (ANSWER, socket(FULL[0]), socket(SINGLE[1]), Action("export", "a=1"), PARK)),
+        Extension("last", (ANSWER, Action("set", "hangup_after_bridge=true"), socket(FULL[2]))),
+        Extension("kept", (Action("set", "park_after_bridge=true"), ANSWER, socket(FULL[0]), Action("eval"))),
+        Extension("turns", (ANSWER, socket(FULL[0]), Action("fifo", "f in"), socket(FULL[0]), Action("bridge", "loopback/held"))),
+    )
+    SUBSCRIPTIONS = (
+        "event plain ALL", "event ALL", "event plain CHANNEL_EXECUTE_COMPLETE CHANNEL_HANGUP",
+        "event CHANNEL_EXECUTE CUSTOM fifo::info", "event plain CHANNEL_STATE CHANNEL_BRIDGE BACKGROUND_JOB",
+        "nixevent CHANNEL_STATE", "nixevent ALL", "noevents", "event json ALL", "event plain x",
+    )
+
+    def __init__(self, seed):
+        super().__init__(seed)
+        self.most_clients = self.one_of(1, 2, 2, 3, 4)
+        self.hasty = self.one_of(2, 6, 14)
+        self.lingers = self.chance(0.3)
+
+    def document(self):
+        document = super().document()
+        document.contexts["default"] += self.ASKING
+        document.connections = self.weighed((8, 16), (1, 2), (1, 3), (1, 5))
+        return document
+
+    def sleep(self):
+        """Moments stand still, so that whoever sleeps does so until it is moved."""
+        return Action("sleep", self.weighed((8, "0"), (3, "x"), (2, "1000")))
+
+    def tried(self):
+        return self.weighed((3, self.socket), (1, self.fifo))
+
+    def socket(self):
+        usual = super().socket
+        return self.weighed(
+            (2, usual),
+            (4, lambda: socket(self.one_of(*self.FULL))),
+            (3, lambda: socket(self.one_of(*self.SINGLE))),
+        )
+
+    def steps(self, entries):
+        """A client comes first. At the end all that waits is taken, mostly once nothing is due any more."""
+        yield "arrive"
+        for _ in range(self.random.randint(self.fewest_steps, self.most_steps)):
+            yield self.step(entries)
+        if self.chance(0.3):
+            yield "halt"
+        if self.chance(0.6):
+            yield from self.rest_of_work(entries)
+        yield from self.partings(entries)
+
+    def step(self, entries):
+        slots, jobs, dials = entries.due_slots(), entries.due_jobs(), entries.dialing_slots()
+        talking = [number for number, one in self.open(entries) if self.may_say(entries, one)]
+        waiting = [number for number, one in self.open(entries) if one.outbox.waiting]
+        return self.weighed(
+            (self.hasty if slots else 0, lambda: f"work {self.random.choice(slots)}"),
+            (4 if jobs else 0, lambda: f"job {self.random.choice(jobs)}"),
+            (4 if dials else 0, lambda: f"{self.one_of('dialed', 'dialed', 'dialed', 'undialed')} {self.random.choice(dials)}"),
+            (8 if talking else 0, lambda: self.said(entries, self.random.choice(talking))),
+            (0.5 if self.lingers else 2, lambda: self.taken(entries, waiting) if waiting else self.arrival(entries)),
+            (self.arrivals(entries, talking), lambda: self.arrival(entries)),
+            (0.5, lambda: self.parting(entries)),
+            (0.15, lambda: self.refused(entries)),
+            (0.01, "halt"),
+        )
+
+    def open(self, entries):
+        live = entries.deliveries.connections
+        return [(number, one) for number, one in enumerate(entries.connections, 1) if one in live]
+
+    def may_say(self, entries, connection):
+        return not connection.ended and not entries.switch.owes(connection)
+
+    def arrivals(self, entries, talking):
+        """Where nobody can say anything, somebody comes."""
+        clients = [one for _, one in self.open(entries) if not isinstance(one, Controller) and not one.ended]
+        if entries.switch.stopping or entries.full():
+            return 0.01
+        return 8 if not talking else 0.5 if len(clients) < self.most_clients else 0.02
+
+    def arrival(self, _entries):
+        return "arrive"
+
+    def taken(self, entries, waiting):
+        """In short no answer and no reply is told that shows a channel. What stands behind its head is not asked of a
+        reply that has further headers, nor of what tells the identifier of a job."""
+        number = self.random.choice(waiting)
+        waits = entries.connections[number - 1].outbox.waiting
+        short = len(list(takewhile(may_be_heard, waits)))
+        return self.weighed(
+            (3 if short else 0, f"hear {number} {short}"),
+            (2 if short else 0, lambda: f"hear {number} {self.random.randint(1, short)}"),
+            (2, f"read {number}"),
+            (1 if may_be_cut(waits[0].text) else 0, f"take {number}"),
+        )
+
+    def parting(self, entries):
+        """One leaves, or is closed where it has begun to end."""
+        number, connection = self.random.choice(self.open(entries) or [(1, None)])
+        return f"close {number}" if connection is None or connection.ended else f"leave {number}"
+
+    def refused(self, entries):
+        """A step that is likely to be refused."""
+        slot = self.random.randint(0, entries.switch.document.slots + 1)
+        number = self.random.randint(0, len(entries.connections) + 1)
+        job = self.random.randint(0, entries.switch.jobs_begun + 1)
+        return self.one_of(
+            f"work {slot}", f"work {slot}", f"dialed {slot}", f"undialed {slot}", f"job {job}", f"close {number}",
+            f"leave {number}", f"take {number}", f"read {number}", f"hear {number} 2",
+            f"say {number} api echo x",
+        )
+
+    def rest_of_work(self, entries):
+        for _ in range(400):
+            works = [f"work {slot}" for slot in entries.due_slots()]
+            jobs = [f"job {number}" for number in entries.due_jobs()]
+            dials = [f"{self.one_of('dialed', 'undialed')} {slot}" for slot in entries.dialing_slots()]
+            if not works + jobs + dials:
+                break
+            yield self.random.choice(works + jobs + dials)
+
+    def partings(self, entries):
+        """All frames are taken. Then some leave and are closed."""
+        for number, connection in self.open(entries):
+            while connection.outbox.waiting:
+                yield self.taken(entries, [number])
+            if self.chance(0.5):
+                yield f"leave {number}"
+                yield f"close {number}"
+
+    def said(self, entries, number):
+        connection = entries.connections[number - 1]
+        if not connection.accepted:
+            line = self.weighed((20, "auth ClueCon"), (1, lambda: self.one_of("auth x", "exit", "connect", "api echo x", "sendmsg")))
+        elif isinstance(connection, Controller):
+            line = self.of_controller(entries, connection)
+        else:
+            line = self.of_client(entries, connection)
+        return f"say {number} {with_line_ends_in_body(line)}"
+
+    def of_client(self, entries, connection):
+        if not connection.listening and self.chance(0.4):
+            return self.one_of(*self.SUBSCRIPTIONS)
+        few = len([channel for channel in entries.switch.live_channels() if held(channel)]) < 3
+        return self.weighed(
+            (8 if few else 2, self.call),
+            (6, lambda: self.unhurried(self.command(entries))),
+            (5, lambda: self.message(entries)),
+            (1, lambda: self.channel_command(entries)),
+            (1, lambda: self.job(entries)),
+            (1, lambda: self.event_command()),
+            (0.5, lambda: self.one_of(*self.SUBSCRIPTIONS)),
+            (0.3, lambda: self.one_of("connect", "sendmsg", "exit", "auth ClueCon", "sendmsg\ncall-command: hangup")),
+            (0.05, lambda: self.one_of(*self.SHUTDOWNS)),
+        )
+
+    def of_controller(self, entries, connection):
+        return self.weighed(
+            (4, lambda: self.one_of("connect", "connect", "connect x", "connect\nConnect: y")),
+            (10, lambda: self.own_message(connection)),
+            (2, lambda: self.message(entries)),
+            (3, lambda: self.one_of(*self.SUBSCRIPTIONS)),
+            (1, lambda: self.filter_of(connection)),
+            (0.5, self.event_command),
+            (4, lambda: self.unhurried(self.moving(entries, connection))),
+            (1, lambda: self.job(entries)),
+            (1, lambda: self.channel_command(entries)),
+            (0.7, lambda: self.one_of("exit", "exit now")),
+            (0.3, lambda: self.one_of("auth ClueCon", "auth", "api", "bgapi", "nosuch", "api nosuch x", "bgapi create_uuid")),
+            (0.05, lambda: self.one_of(*self.SHUTDOWNS)),
+        )
+
+    def call(self):
+        """A call whose far end, or whose leg, asks for a controller."""
+        pairs = list(self.braces())
+        if self.chance(0.3):
+            pairs.append("origination_caller_id_name=" + self.one_of("Ann", "A+B"))
+        number = self.one_of(*self.ASKING, *self.ASKING, *self.LASTING).number
+        target = self.weighed(
+            (6, "&park()"), (3, lambda: f"'&socket({self.one_of(*self.FULL, *self.SINGLE)})'"), (2, self.target), (1, number)
+        )
+        braces = "{" + ",".join(pairs) + "}" if pairs else ""
+        return self.unhurried(f"api originate {braces}loopback/{number} {target}")
+
+    def unhurried(self, line):
+        """A call is mostly begun in the background, so that its client goes on."""
+        begins = line.startswith(("api originate", "api msleep")) and self.chance(0.6)
+        return self.in_background(line) if begins else line
+
+    def moving(self, entries, connection):
+        """Commands that move its own channel or others."""
+        own = connection.own_channel
+        other = self.channel(entries, held, parked, any_channel)
+        return self.weighed(
+            (3, lambda: self.command(entries)),
+            (1, lambda: f"api uuid_transfer {own} {self.one_of('held', 'own', 'stays', self.number)}"),
+            (1, f"api uuid_park {own}"),
+            (1, lambda: f"api uuid_bridge {self.one_of(f'{own} {other}', f'{other} {own}')}"),
+            (1, lambda: f"api uuid_kill {self.one_of(own, other)} {self.cause()}"),
+            (1, f"api uuid_setvar {own} b x:y z"),
+            (1, f"api uuid_dump {own}"),
+            (1, lambda: "api msleep " + self.one_of("0", "0", "1000")),
+        )
+
+    def own_message(self, connection):
+        """Mostly without an identifier, and of what its channel can do."""
+        told = self.weighed((12, self.told_application), (0.6, self.told_hangup), (0.4, lambda: list(self.one_of(*self.ODD_MESSAGES))))
+        return "\n".join([self.weighed((9, "sendmsg"), (1, "sendmsg "), (1, f"sendmsg {connection.own_channel}")), *told])
+
+    def told_action(self):
+        usual = super().told_action
+        return self.weighed(
+            (6, usual),
+            (3, ANSWER),
+            (2, lambda: Action("bridge", "loopback/" + self.one_of("stays", "held", "own", "sock"))),
+            (1, lambda: Action("transfer", self.one_of("held", "own", "stays", "two"))),
+            (1, PARK),
+            (1, lambda: self.tried()),
+            (1, lambda: Action("set", self.one_of("a b=1% x", "k=v:w", "hangup_after_bridge=true", "k="))),
+            (0.5, Action("sleep", "1000")),
+        )
+
+    def filter_of(self, connection):
+        own = connection.own_channel
+        return self.one_of(
+            f"filter Unique-ID {own}", f"filter delete Unique-ID {own}", f"filter Other-Leg-Unique-ID {own}", "filter delete Unique-ID",
+            "filter Application socket", "filter Event-Name " + self.one_of(*EVENTS),
+        )
+
+    def target_of_command(self, entries):
+        return self.channel(entries, held, held, rests_with_controller, parked, waits, bridged, queued, taking, any_channel)
+
+    def moved(self, entries):
+        return self.channel(entries, held, rests_with_controller, waits, parked, bridged, any_channel)

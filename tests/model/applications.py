@@ -173,7 +173,7 @@ def is_limit(words):
 
 
 def run_socket(switch, channel, argument):
-    """The channel waits for a dial. Where its first word is no target, or a controller holds it, it goes on at once."""
+    """The channel waits for a dial. Where nobody is named, or a controller holds it, it goes on at once."""
     target = read_target(words_of(argument))
     if target is None or channel.controller:
         switch.complete(channel)
@@ -182,7 +182,10 @@ def run_socket(switch, channel, argument):
 
 
 def read_target(words):
-    """A host and a port from 1 to 65,535, parted by the last colon of the first word. `full` stands anywhere behind it."""
+    """A host and a port from 1 to 65,535, parted by the last colon of the first word.
+
+    `full` says that the controller may do all, wherever it stands behind that.
+    """
     host, _, port = (words or [""])[0].rpartition(":")
     number = read_number(port)
     if host == "" or number is None or not 1 <= number <= LAST_PORT:

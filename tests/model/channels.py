@@ -100,7 +100,7 @@ class Channel:
         self.target = target
 
     def rest(self):
-        """A channel that is held waits for its controller, a parked one for commands, any other one for nothing."""
+        """Who is held waits for its controller, who is parked for commands, anyone else for nothing."""
         if self.controller:
             self.wait_for(Wait.CONTROLLER)
         else:

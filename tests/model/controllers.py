@@ -1,10 +1,10 @@
 """A controller: the connection that a dial opens, which holds the channel that asked for it.
 
-It is asked for no password, and has subscribed nothing at first. `connect` tells it of its channel. A message without
-an identifier goes there. Where the channel did not ask for one that may do all, api commands are refused, and nothing
-is done. It ends once its channel is hung up or leaves it, and its notice names that channel. Where it ends by itself
-the channel goes on: if it waits for its controller, what it runs is over, and it rests; anything else it finishes
-first.
+It is asked for no password, and has subscribed nothing at first. `connect` tells it of its channel. A message
+without an identifier goes there. Where the channel did not ask for one that may do all, api commands are
+refused, and nothing is done. It ends once its channel is hung up or leaves it, and its notice names that
+channel. Where it ends by itself the channel goes on: if it waits for its controller, what it runs is over,
+and it rests; anything else it finishes first.
 """
 
 from channels import Wait

@@ -1,8 +1,8 @@
 """What each connection is given by an entry, and what waits for it until it is taken.
 
-Within an entry a connection is given the replies to its own command, then the events that it had subscribed before
-the entry, then an answer that it was owed, and last the notice, where the entry ends it. Who has left by the end of
-its input gets no notice, and who is closed gets nothing more.
+Within an entry a connection is given the replies to its own command, then the events that it had subscribed
+before the entry, then an answer that it was owed, and last the notice, where the entry ends it. Who has left
+by the end of its input gets no notice, and who is closed gets nothing more.
 """
 
 from collections import Counter, deque

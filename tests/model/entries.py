@@ -1,9 +1,9 @@
 """Entries that are made one after another, of any number of connections and channels, in whatever order.
 
-What is due is worked where somebody says so. An entry is refused for the first of these reasons that holds, and then
-changes nothing: its connection is gone or reads no more, there are as many connections as may be, the connection is
-owed an answer, nothing waits to be taken, something waits or is owed that was to be sent, or nothing is due. All
-moments are 0.
+What is due is worked where somebody says so. An entry is refused for the first of these reasons that holds,
+and then changes nothing: its connection is gone or reads no more, there are as many connections as may be,
+the connection is owed an answer, nothing waits to be taken, something waits or is owed that was to be sent,
+or nothing is due. All moments are 0.
 """
 
 from functools import partial
@@ -55,8 +55,12 @@ class Entries:
         self.connections.append(connection)
         self.deliveries.connections.append(connection)
 
+    def open_connections(self):
+        """The numbers of the connections that are not closed, and these."""
+        numbered = enumerate(self.connections, 1)
+        return [(number, one) for number, one in numbered if one in self.deliveries.connections]
+
     def live(self):
-        """How many connections there are that are not closed."""
         return len(self.deliveries.connections)
 
     def full(self):
@@ -151,7 +155,8 @@ class Entries:
         return [slot for slot, channel in self.switch.channels.items() if self.is_due(self.due(channel))]
 
     def due_jobs(self):
-        return [number for number, job in self.switch.jobs.items() if self.is_due(job.task.due(self.switch.now))]
+        now = self.switch.now
+        return [number for number, job in self.switch.jobs.items() if self.is_due(job.task.due(now))]
 
     def due(self, channel):
         return None if channel.wait is Wait.DIAL else self.switch.due(channel)

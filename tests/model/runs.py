@@ -3,10 +3,10 @@
 
     python3 tests/model/runs.py --program "COMMAND" FIRST LAST
 
-makes a case of each seed from FIRST to LAST: a line with a document, and a line with steps of entries. All of them
-are given to the program on its standard input, and what it answers is compared line by line. How many runs agreed is
-printed. Of the first that differs all is printed that makes it, and the status is 1. Without a program the cases are
-printed as the model answers them.
+makes a case of each seed from FIRST to LAST: a line with a document, and a line with steps of entries. All of
+them are given to the program on its standard input, and what it answers is compared line by line. How many
+runs agreed is printed. Of the first that differs all is printed that makes it, and the status is 1. Without a
+program the cases are printed as the model answers them.
 """
 
 import argparse
@@ -30,11 +30,12 @@ class Case:
     told: tuple
 
     def lines(self):
-        return [f"file {written(self.document)}", f"entries {'; '.join(map(written, joined(self.steps)))}"]
+        steps = "; ".join(escaped(step, "%;") for step in joined(self.steps))
+        return ["file " + escaped(self.document, "%;"), "entries " + steps]
 
     def answered(self):
         """The lines with their answer, as a program of cases prints them."""
-        return [*self.lines(), *(f"  {line}" for lines in self.told for line in map(written_byte_by_byte, lines))]
+        return [*self.lines(), *("  " + escaped(line, "%") for lines in self.told for line in lines)]
 
 
 def made(seed):
@@ -57,13 +58,12 @@ def joined(steps):
             yield from group
 
 
-def written(text):
-    """A step, or a document, in which each byte is escaped that is not printable or ends a step."""
-    return "".join(character if " " <= character <= "~" and character not in "%;" else f"%{ord(character):02X}" for character in text)
-
-
-def written_byte_by_byte(text):
-    return "".join(character if " " <= character <= "~" and character != "%" else f"%{ord(character):02X}" for character in text)
+def escaped(text, further):
+    """Each byte is escaped that is not printable, and each of these."""
+    return "".join(
+        character if " " <= character <= "~" and character not in further else f"%{ord(character):02X}"
+        for character in text
+    )
 
 
 def answered_by(program, cases):

@@ -1,10 +1,10 @@
 """Steps of entries, as a line of a case has them, and what is told of each.
 
-An entry is told by which a bridge begins or ends or a channel is hung up: with its events, behind each the number of
-its bridge or the cause of its hangup. Of what a connection is handed out a step tells the whole frame, what stands
-behind its head, or this in short: of an event its name, its number and whom it tells of, of a reply its text and
-behind it the identifier of a job that has begun, and of any answer, in whichever frame, the lines that have no colon.
-A refused entry tells why.
+An entry is told by which a bridge begins or ends or a channel is hung up: with its events, behind each the
+number of its bridge or the cause of its hangup. Of what a connection is handed out a step tells the whole
+frame, what stands behind its head, or this in short: of an event its name, its number and whom it tells of,
+of a reply its text and behind it the identifier of a job that has begun, and of any answer, in whichever
+frame, the lines that have no colon. A refused entry tells why.
 """
 
 from functools import partial

@@ -63,7 +63,7 @@ class Controlled(Dialing):
     )
     BEFORE_PASSWORD = ("auth x", "exit", "connect", "api echo x", "sendmsg")
     NOT_FOR_CLIENTS = ("connect", "sendmsg", "exit", "auth ClueCon", "sendmsg\ncall-command: hangup")
-    NOT_FOR_CONTROLLERS = ("auth ClueCon", "auth", "api", "bgapi", "nosuch", "api nosuch x", "bgapi create_uuid")
+    ODD_COMMANDS = ("auth ClueCon", "auth", "api", "bgapi", "nosuch", "api nosuch x", "bgapi create_uuid")
 
     def __init__(self, seed):
         super().__init__(seed)
@@ -241,7 +241,7 @@ class Controlled(Dialing):
             (1, lambda: self.job(entries)),
             (1, lambda: self.channel_command(entries)),
             (1, lambda: self.one_of("exit", "exit now")),
-            (0.3, lambda: self.one_of(*self.NOT_FOR_CONTROLLERS)),
+            (0.3, lambda: self.one_of(*self.ODD_COMMANDS)),
             (0.05, lambda: self.one_of(*self.SHUTDOWNS)),
         )
 

@@ -17,6 +17,7 @@ from urllib.parse import unquote_to_bytes
 
 import hunts
 import load
+import rows_of_runs
 from api import COMING, COMMANDS
 from blocks import Stream
 from dialplan import Action, Document, Extension
@@ -2050,7 +2051,9 @@ def no_reload_yet():
 def main():
     words = argparse.ArgumentParser(description=__doc__, formatter_class=argparse.RawDescriptionHelpFormatter)
     words.add_argument("--coming", action="store_true")
-    rows = ROWS | COMING_ROWS if words.parse_args().coming else ROWS
+    rows = ROWS | rows_of_runs.ROWS
+    if words.parse_args().coming:
+        rows |= COMING_ROWS
     agreed = 0
     for name, run in rows.items():
         parted = [(said, expected) for said, expected in run() if said != expected]

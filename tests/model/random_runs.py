@@ -221,6 +221,7 @@ class Controlled(Dialing):
             ([30, 20, 10, 2, 0.5][min(asking, 4)] if len(live) < 20 else 0, self.call),
             (3, lambda: self.unhurried(self.command(entries))),
             (4, lambda: self.message(entries)),
+            (2, lambda: self.asked(entries)),
             (1, lambda: self.channel_command(entries)),
             (1, lambda: self.job(entries)),
             (0.5, self.event_command),
@@ -248,13 +249,20 @@ class Controlled(Dialing):
     def call(self):
         """A call whose far end, or whose leg, asks for a controller."""
         pairs = [*self.braces(), *self.some(lambda: self.one_of(*self.PAIRS), 0, 0, 1)]
-        if self.chance(0.15):
+        if self.chance(0.3):
             pairs.append("origination_uuid=" + self.one_of(*self.IDENTIFIERS))
         if self.chance(0.3):
             pairs.append("origination_caller_id_name=" + self.one_of("Ann", "A+B"))
         number = self.one_of(*self.ASKING * 2, self.one_of(*self.LASTING)).number
         target = self.weighed((6, "&park()"), (3, self.tried_target), (2, self.target), (1, number))
         return self.unhurried(f"api originate {brackets(pairs)}loopback/{number} {target}")
+
+    def asked(self, entries):
+        """A channel is told to ask for a controller, mostly one that is parked and would rest so."""
+        channel = self.channel(entries, parked, parked, parked, any_channel)
+        target = self.one_of(*self.FULL, *self.SINGLE)
+        headers = ("call-command: execute", "execute-app-name: socket", f"execute-app-arg: {target}")
+        return "\n".join([f"sendmsg {channel}", *headers])
 
     def unhurried(self, line):
         """A call is mostly begun in the background, so that its client goes on."""
@@ -296,7 +304,7 @@ class Controlled(Dialing):
             (2, PARK),
             (1, self.tried),
             (1, lambda: Action("set", self.one_of("a b=1% x", "k=v:w", "hangup_after_bridge=true", "k="))),
-            (0.5, Action("sleep", "1000")),
+            (1, Action("sleep", "1000")),
         )
 
     def filter_of(self, connection):

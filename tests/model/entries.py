@@ -8,7 +8,6 @@ or nothing is due. All moments are 0.
 
 from functools import partial
 
-import switch as work_of
 from blocks import Stream
 from channels import Wait
 from commands import Connection
@@ -16,7 +15,7 @@ from controllers import Controller
 from deliveries import Deliveries
 from frames import AUTH_REQUEST
 from session import Journal
-from switch import Switch
+from switch import Switch, work
 
 
 class Refused(Exception):
@@ -106,7 +105,7 @@ class Entries:
         channel = self.switch.channels.get(slot)
         dials = channel is None or channel.wait is Wait.DIAL
         self.see_due(None if dials else self.switch.due(channel))
-        return self.entry(partial(work_of.work, self.switch, channel))
+        return self.entry(partial(work, self.switch, channel))
 
     def job(self, number):
         job = self.switch.jobs.get(number)

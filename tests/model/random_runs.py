@@ -12,6 +12,7 @@ from channels import Wait
 from controllers import Controller
 from dialplan import Action, Extension
 from further import parked
+from kinds import Everything
 from random_plays import ANSWER, PARK, any_channel, brackets, bridged, waits
 from sockets import Dialing
 from tables import EVENTS
@@ -209,7 +210,7 @@ class Controlled(Dialing):
             line = self.of_controller(entries, connection)
         else:
             line = self.of_client(entries, connection)
-        return f"say {number} {with_line_ends_in_body(line)}"
+        return f"say {number} {one_block(line)}"
 
     def of_client(self, entries, connection):
         """Mostly calls, as long as few channels have controllers."""
@@ -322,6 +323,15 @@ class Controlled(Dialing):
         return self.channel(entries, held, rests_with_controller, asks, waits, parked, bridged, any_channel)
 
 
+class Mingled(Controlled, Everything):
+    """The same in documents of several kinds, with the commands of all of them."""
+
+
+def random_run(seed):
+    """Every other one has a document of several kinds."""
+    return (Controlled, Mingled)[seed % 2](seed)
+
+
 def may_be_heard(frame):
     """An event of a channel, or a frame that shows none."""
     of_channel = frame.of_event and "\nEvent-Name: BACKGROUND_JOB\n" not in frame.text
@@ -334,7 +344,10 @@ def may_be_cut(text):
     return not any(f"\n{header}" in text for header in further)
 
 
-def with_line_ends_in_body(line):
-    """A command is said with an empty line. Where it has a body, the two line ends are the end of that."""
+def one_block(line):
+    """Of several commands the first one. It is said with an empty line: two line ends are the end of its body."""
     head, gap, body = line.partition("\n\n")
-    return head.replace(f"Content-Length: {len(body)}", f"Content-Length: {len(body) + 2}") + gap + body
+    length = f"Content-Length: {len(body)}"
+    if not gap or length not in head:
+        return head
+    return head.replace(length, f"Content-Length: {len(body) + 2}") + gap + body

@@ -17,7 +17,7 @@ from dataclasses import dataclass
 from itertools import groupby, zip_longest
 
 from entries import Entries
-from random_runs import Controlled
+from random_runs import random_run
 from steps import answers
 
 
@@ -39,7 +39,7 @@ class Case:
 
 
 def made(seed):
-    chooser = Controlled(seed)
+    chooser = random_run(seed)
     document = chooser.document()
     entries = Entries(document)
     steps, told = [], []

@@ -7,8 +7,6 @@ of a reply its text and behind it the identifier of a job that has begun, and of
 frame, the lines that have no colon. A refused entry tells why.
 """
 
-from functools import partial
-
 from entries import Refused
 
 TOLD = ("CHANNEL_BRIDGE", "CHANNEL_UNBRIDGE", "CHANNEL_HANGUP")

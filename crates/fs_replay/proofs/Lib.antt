@@ -1,1 +1,8 @@
+pub mod Mirrors
 pub mod Writings
+pub mod Numbers
+pub mod ActLines
+pub mod Lines
+pub mod Bad
+pub mod Faulty
+mod Stops

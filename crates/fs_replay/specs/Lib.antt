@@ -1,1 +1,4 @@
 pub mod Texts
+pub mod Bounds
+pub mod Faults
+pub mod Reading

@@ -1,4 +1,5 @@
 pub mod PairsLemmas
+pub mod SameLemmas
 pub mod TallyLemmas
 pub mod DigitLemmas
 pub mod ExpansionLemmas

@@ -1,5 +1,5 @@
 //! What is known of a call.
-ghost use Rattle.std.specs.Prelude.{◌≡◌, IfOk, option_copied};
+ghost use Rattle.std.specs.Prelude.{◌≡◌, ◌↔◌, IfOk, option_copied, IsTrue};
 ghost use Rattle.fs_vars.specs.Pairs.{value_of};
 
 use fs_text::{Memory, Txt};
@@ -84,6 +84,24 @@ impl Profile {
         })
     }
 
+    /// Whether each field is the same.
+    pub fn is_same(&self, other: &Profile) -> bool
+        ensures { IsTrue result ↔ (self.now ≡ other.now) }
+    {
+        is_same(&self.destination_number, &other.destination_number)
+            && is_same(&self.caller_id_name, &other.caller_id_name)
+            && is_same(&self.caller_id_number, &other.caller_id_number)
+            && is_same(&self.ani, &other.ani)
+            && is_same(&self.rdnis, &other.rdnis)
+            && is_same(&self.context, &other.context)
+            && is_same(&self.dialplan, &other.dialplan)
+            && is_same(&self.source, &other.source)
+            && is_same(&self.uuid, &other.uuid)
+            && is_same(&self.chan_name, &other.chan_name)
+            && is_same(&self.network_addr, &other.network_addr)
+            && is_same(&self.username, &other.username)
+    }
+
     /// The field of a name.
     #[tactic(auto, unfolding(crate::specs::Scopes::fields_of))]
     pub fn get(&self, name: &[u8]) -> Option<&Txt>
@@ -117,4 +135,11 @@ impl Profile {
             None
         }
     }
+}
+
+/// Whether two texts have the same bytes.
+fn is_same(text: &Txt, other: &Txt) -> bool
+    ensures { IsTrue result ↔ (text.now ≡ other.now) }
+{
+    text.as_bytes() == other.as_bytes()
 }

@@ -1,6 +1,6 @@
 //! The table in which variables stand under their names.
 
-ghost use Rattle.std.specs.Prelude.{◌≡◌, [], IfOk, OnOk, OnErr, option_copied};
+ghost use Rattle.std.specs.Prelude.{◌≡◌, ◌↔◌, [], IfOk, OnOk, OnErr, option_copied, IsTrue};
 ghost use Rattle.fs_vars.specs.Pairs.{value_of, with_value, without, AreDistinct};
 
 use crate::pairs::VarsIter;
@@ -81,6 +81,22 @@ impl Table {
             table.put(name, value.copy()?)?;
         }
         Ok(table)
+    }
+
+    /// Whether it has the same names with the same values, in the same order.
+    pub fn is_same(&self, other: &Table) -> bool
+        ensures { IsTrue result ↔ (self.now ≡ other.now) }
+    {
+        let mut others = other.iter();
+        for (name, value) in self.iter() {
+            let Some((other_name, other_value)) = others.next() else {
+                return false;
+            };
+            if name != other_name || value.as_bytes() != other_value.as_bytes() {
+                return false;
+            }
+        }
+        others.next().is_none()
     }
 
     /// Where the table takes its memory from.

@@ -1,6 +1,6 @@
 //! Variables within their limits.
 
-ghost use Rattle.std.specs.Prelude.{◌≡◌, ◌≤◌, true, [], length, if◌then◌else◌, IfOk, OnErr, option_copied};
+ghost use Rattle.std.specs.Prelude.{◌≡◌, ◌≤◌, ◌↔◌, true, [], length, if◌then◌else◌, IfOk, OnErr, option_copied, IsTrue};
 ghost use Rattle.fs_vars.specs.Pairs.{value_of, with_value, without, AreDistinct};
 ghost use Rattle.fs_vars.specs.Variables.{can_set, set_to, is_removal, is_within, tally_of};
 
@@ -82,6 +82,13 @@ impl Vars {
             table: self.table.copy()?,
             tally: self.tally,
         })
+    }
+
+    /// Whether these are the same variables in the same order, with the same bounds.
+    pub fn is_same(&self, other: &Vars) -> bool
+        ensures { IsTrue result ↔ (self.now ≡ other.now) }
+    {
+        self.bounds == other.bounds && self.table.is_same(&other.table)
     }
 
     /// Sets a variable, and says whether it did. An empty value and `_undef_` take the variable out.

@@ -83,6 +83,13 @@ impl<T: Drop> Sheet<T> {
         self.writes.len()
     }
 
+    /// The seat of a write, unless a later one is of the same seat.
+    pub fn last_of(&self, write: usize) -> Option<usize>
+        ensures { result ≡ spec.last_of self.now write }
+    {
+        last_in(self.writes.get(write..)?)
+    }
+
     /// Takes back what was written over a table last, if it is something at this seat, so that something else can be
     /// put there.
     #[tactic(auto, using(crate::proofs::SeatLemmas::taken_held, crate::proofs::SeatLemmas::taken_put))]
@@ -138,4 +145,27 @@ impl<T: Drop> Sheet<T> {
         }
         self.writes.clear();
     }
+}
+
+/// The seat of the first of these writes, unless one behind it is of the same seat.
+fn last_in<T>(writes: &[Write<T>]) -> Option<usize>
+    ensures { result ≡ spec.last_in writes.now }
+{
+    let (first, later) = writes.split_first()?;
+    if has_write(later, first.seat) {
+        return None;
+    }
+    Some(first.seat)
+}
+
+/// Whether one of these writes is of a seat.
+fn has_write<T>(writes: &[Write<T>], seat: usize) -> bool
+    ensures { result ≡ spec.has_write writes.now seat }
+{
+    for write in writes {
+        if write.seat == seat {
+            return true;
+        }
+    }
+    false
 }

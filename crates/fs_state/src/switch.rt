@@ -19,7 +19,7 @@ use fs_bridge::Bridges;
 use fs_chan::Chan;
 use fs_doc::{Config, Settings};
 use fs_orig::Orig;
-use fs_seats::{Boxed, Numbered, Rows, Seats, Table};
+use fs_seats::{Boxed, Numbered, Overlay, Rows, Seats, Table};
 use fs_text::Memory;
 use fs_vars::Vars;
 use std::alloc::Global;
@@ -213,6 +213,31 @@ impl Core {
         ensures { option_copied result ≡ spec.chan_at self.now slot }
     {
         Some(self.channels.get(usize::from(slot))?)
+    }
+
+    /// The channel in a slot once these changes are made.
+    pub fn chan_after<'a>(&'a self, delta: &'a Delta, slot: u16) -> Option<&'a Chan>
+        ensures { option_copied result ≡ spec.chan_at (after self.now delta.now) slot }
+    {
+        let channels = Overlay::of(&self.channels, &delta.channels);
+        Some(channels.lend(usize::from(slot))?)
+    }
+
+    /// The variables of the whole switch.
+    pub fn globals(&self) -> &Vars
+        ensures { result.now ≡ self.now.globals }
+    {
+        &self.globals
+    }
+
+    /// The variables of the whole switch once these changes are made.
+    pub fn globals_after<'a>(&'a self, delta: &'a Delta) -> &'a Vars
+        ensures { result.now ≡ (after self.now delta.now).globals }
+    {
+        match &delta.globals {
+            Some(globals) => globals,
+            None => &self.globals,
+        }
     }
 
     /// How many slots are filled, at most: from this one on there is no channel.

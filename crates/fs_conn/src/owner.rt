@@ -12,7 +12,7 @@ ghost use Rattle.fs_conn.specs.Owning.{OwnsConn, Entered, Refused};
 
 use crate::standing::StandingOf;
 use fs_book::{Book, Pass};
-use fs_machine::{Act, Answer, Entry, Machine, Refusal, Standing};
+use fs_machine::{Act, Answer, Entry, Machine, Offer, Refusal, RouteRefusal, Standing};
 use fs_ports::Clock;
 use std::sync::Wait;
 
@@ -39,12 +39,13 @@ pub(crate) fn enter<R: Wait, C: Clock>(
         (seen pass.old) (mine pass.old) (seen pass.new) (mine pass.new) act) }
 {
     let moment = clock.now();
-    match book.submit(rt, pass, Entry { moment, act }) {
+    match book.submit(rt, pass, Offer::Entry(Entry { moment, act })) {
         Ok(receipt) => {
             clock.wake(&receipt.answer.wakes);
             Ok(receipt.answer)
         }
-        Err(refusal) => Err(refusal),
+        Err(RouteRefusal::Step(refusal)) => Err(refusal),
+        Err(RouteRefusal::Again { .. }) => unreachable!(),
     }
 }
 

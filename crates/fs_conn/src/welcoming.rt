@@ -6,7 +6,7 @@ ghost use Rattle.fs_machine.specs.Turned.{configured};
 ghost use Rattle.fs_conn.specs.Owning.{Welcomed, TurnedAway};
 
 use fs_book::{Book, Pass};
-use fs_machine::{Act, Entry, Machine, Refusal, Reply};
+use fs_machine::{Act, Entry, Machine, Offer, Refusal, Reply, RouteRefusal};
 use fs_ports::Clock;
 use std::sync::Wait;
 
@@ -31,13 +31,14 @@ pub fn welcome<R: Wait, C: Clock>(
 {
     let moment = clock.now();
     let act = Act::Arrive;
-    match book.submit(rt, pass, Entry { moment, act }) {
+    match book.submit(rt, pass, Offer::Entry(Entry { moment, act })) {
         Ok(receipt) => {
             let Reply::Arrived(conn) = receipt.answer.reply else {
                 unreachable!()
             };
             Ok(conn)
         }
-        Err(refusal) => Err(refusal),
+        Err(RouteRefusal::Step(refusal)) => Err(refusal),
+        Err(RouteRefusal::Again { .. }) => unreachable!(),
     }
 }

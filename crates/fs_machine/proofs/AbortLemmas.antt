@@ -1,8 +1,7 @@
 -- A caller that leaves its queue tells so, and nothing else changes.
-use Rattle.std.proofs.Common.{◌≡◌, ℕ, Bool, true, false, if◌then◌else◌, List, Option, None, Some, refl}
+use Rattle.std.proofs.Common.{◌≡◌, ℕ, Bool, true, false, if◌then◌else◌, Option, None, Some, refl}
 use Rattle.std.specs.Prelude.{nat_lt}
 use Rattle.fs_text.specs.Texts.{Text}
-use Rattle.fs_chan.specs.declared.chan.Chan.{Chan}
 use Rattle.fs_state.specs.declared.event.QueueAction.TheVariants.{Abort}
 use Rattle.fs_state.specs.Switch.{Switch, with_event}
 use Rattle.fs_state.specs.Hangups.{lives_at}

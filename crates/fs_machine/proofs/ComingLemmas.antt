@@ -20,7 +20,7 @@ use Rattle.fs_machine.specs.Questions.{parting_of}
 use Rattle.fs_machine.specs.Step.{new_conn, arrived}
 use Rattle.fs_machine.proofs.ShortLemmas.{right_holds}
 use Rattle.fs_machine.proofs.RestLemmas.{rest_of, moved_rest}
-use Rattle.fs_machine.proofs.KeepLemmas.{is_shut, Hears, settles_same, Keeps, keeps_same, sockets_same}
+use Rattle.fs_machine.proofs.KeepLemmas.{is_shut, settles_same, Keeps, keeps_same, sockets_same}
 use Rattle.fs_machine.proofs.WaitingLemmas.{Ordered, keeps_ordered, keeps_waiting, keeps_seat, arrived_ordered, arrived_waits, arrived_gone}
 
 -- a controller takes hold of the channel in a slot, which waited for that

@@ -1,15 +1,15 @@
 -- A connection that is gone lets its channel go, and each whose channel has left it parts.
 use Rattle.std.proofs.Common.{◌≡◌, ℕ, zero, suc, Bool, true, false, if◌then◌else◌, List, [], ◌∷◌, map, Option, None, Some, option_map}
-use Rattle.std.proofs.Common.{refl, sym, ap, ◌∙◌}
+use Rattle.std.proofs.Common.{refl, ap, ◌∙◌}
 use Rattle.std.specs.Option.{option_and_then}
 use Rattle.fs_chan.specs.declared.action.Action.{Action}
 use Rattle.fs_chan.specs.declared.chan.Chan.{Chan}
 use Rattle.fs_chan.specs.Controlling.{let_go, is_held_by}
 use Rattle.fs_seats.specs.declared.numbered.Numbered.{Numbered}
-use Rattle.fs_seats.specs.Rows.{has_number, seat_of, row_of}
+use Rattle.fs_seats.specs.Rows.{has_number, seat_of}
 use Rattle.fs_seats.specs.Seats.{held_in}
 use Rattle.fs_seats.proofs.RowLemmas.{SameNumbers, seats_same, row_none, row_gone}
-use Rattle.fs_seats.proofs.TableLemmas.{IsRow, row_is, row_found}
+use Rattle.fs_seats.proofs.TableLemmas.{row_is, row_found}
 use Rattle.fs_state.specs.declared.conn.Conn.{Conn}
 use Rattle.fs_state.specs.declared.conn.Parting.TheVariants.{ChannelLeft}
 use Rattle.fs_state.specs.Switch.{Switch, chan_at, with_chan, conn_of, without_conn}

@@ -10,7 +10,7 @@ use Rattle.fs_state.specs.declared.conn.Parting.TheVariants.{ChannelLeft}
 use Rattle.fs_state.specs.declared.gift.Gift.{Gift}
 use Rattle.fs_state.specs.Switch.{Switch, with_conn_at, gift_of}
 use Rattle.fs_machine.specs.Connections.{parted}
-use Rattle.fs_machine.specs.Controlling.{is_left, row_behind, conn_behind, farewell, farewell_behind, left_at, after_leavings}
+use Rattle.fs_machine.specs.Controlling.{is_left, conn_behind, farewell, farewell_behind, left_at, after_leavings}
 
 abbrev Seats : Type 0
 Seats = List (Option (Numbered Conn))

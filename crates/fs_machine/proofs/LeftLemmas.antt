@@ -18,7 +18,7 @@ use Rattle.fs_state.specs.Switch.{Switch, empty, gift_of, at_moment}
 use Rattle.fs_machine.specs.declared.entry.Entry.{Entry}
 use Rattle.fs_machine.specs.declared.entry.Act.TheVariants.{Arrive, Take}
 use Rattle.fs_machine.specs.Connections.{parted}
-use Rattle.fs_machine.specs.Controlling.{is_left, row_behind, conn_behind, farewell, farewell_behind, after_leavings}
+use Rattle.fs_machine.specs.Controlling.{is_left, conn_behind, farewell, farewell_behind, after_leavings}
 use Rattle.fs_machine.specs.Frames.{frames_among}
 use Rattle.fs_machine.specs.Step.{Acted, new_conn, arrived, taken, acted, act_done, step}
 use Rattle.fs_machine.specs.Runs.{run_from}

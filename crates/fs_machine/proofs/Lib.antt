@@ -117,3 +117,6 @@ pub mod LetGoLaws
 pub mod BehindLemmas
 pub mod ArrivalLemmas
 pub mod QuietLemmas
+pub mod TouchLemmas
+pub mod RouteLemmas
+pub mod OfferLemmas

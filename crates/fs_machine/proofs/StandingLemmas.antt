@@ -25,7 +25,7 @@ use Rattle.fs_doc.specs.Reading.{Configuration}
 use Rattle.fs_chan.specs.declared.chan.Chan.{Chan}
 use Rattle.fs_orig.specs.declared.orig.Orig.{Orig}
 use Rattle.fs_seats.specs.declared.numbered.Numbered.{Numbered}
-use Rattle.fs_seats.specs.Seats.{no_seats, held_in}
+use Rattle.fs_seats.specs.Seats.{no_seats}
 use Rattle.fs_seats.proofs.HeldLemmas.{nothing_held}
 use Rattle.fs_doc.specs.declared.settings.Settings.{Settings}
 use Rattle.fs_state.specs.Switch.{Switch, empty, chan_at, orig_of, at_moment}

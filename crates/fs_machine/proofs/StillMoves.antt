@@ -1,10 +1,9 @@
 -- Once the switch has come to its end nothing goes on in it any more: what the entry leaves that brings the end, and what the entries do
 -- behind it.
-use Rattle.std.proofs.Common.{◌≡◌, ℕ, zero, suc, ◌++◌, Bool, true, false, List, [], ◌∷◌, length, Option, None, Some, IsSome, unwrap_or}
+use Rattle.std.proofs.Common.{◌≡◌, ℕ, zero, suc, ◌++◌, Bool, true, false, List, [], ◌∷◌, length, Option, None, Some, unwrap_or}
 use Rattle.std.proofs.Common.{◌⊎◌, inl, inr, nat_lt, not, if◌then◌else◌, is_none, refl, sym, ap, subst, ◌∙◌, true≢false}
 use Rattle.std.specs.Prelude.{is_some}
 use Rattle.std.specs.Option.{option_and_then}
-use Rattle.std.proofs.lemmas.Bool.{cases_eq}
 use Rattle.std.proofs.lemmas.Option.{none-some, same_Some}
 use Rattle.fs_text.specs.Texts.{Text}
 use Rattle.fs_text.specs.State.{state_row, state_number}
@@ -14,7 +13,6 @@ use Rattle.fs_text.specs.declared.event_names.EventName.TheVariants.{ChannelDest
 use Rattle.fs_chan.specs.declared.chan.Chan.{Chan}
 use Rattle.fs_chan.specs.Changes.{is_live, in_state}
 use Rattle.fs_chan.specs.Controlling.{dial_of}
-use Rattle.fs_filter.specs.Subscriptions.{Subscription}
 use Rattle.fs_orig.specs.Changes.{with_answer}
 use Rattle.fs_orig.specs.declared.caller.Caller.{Caller}
 use Rattle.fs_orig.specs.declared.orig.Orig.{Orig}
@@ -22,15 +20,14 @@ use Rattle.fs_orig.specs.declared.plan.LegPlan.{LegPlan}
 use Rattle.fs_orig.specs.declared.winner.Winner.{Winner}
 use Rattle.fs_doc.specs.Reading.{Configuration}
 use Rattle.fs_seats.specs.declared.numbered.Numbered.{Numbered}
-use Rattle.fs_seats.specs.Seats.{held_in, with_held}
-use Rattle.fs_seats.specs.Rows.{seat_of, row_of}
-use Rattle.fs_seats.proofs.HeldLemmas.{nothing_held, held_there, held_within}
-use Rattle.fs_seats.proofs.RowLemmas.{each_put_at, emptied}
+use Rattle.fs_seats.specs.Seats.{held_in}
+use Rattle.fs_seats.specs.Rows.{seat_of}
+use Rattle.fs_seats.proofs.HeldLemmas.{nothing_held, held_there}
+use Rattle.fs_seats.proofs.RowLemmas.{each_put_at}
 use Rattle.fs_seats.proofs.TableLemmas.{IsWrittenOrKept, written_or_kept, kept_without, row_found}
 use Rattle.fs_state.specs.declared.conn.Conn.{Conn}
 use Rattle.fs_state.specs.declared.conn.Phase.{Phase}
 use Rattle.fs_state.specs.declared.conn.Phase.TheVariants as phase
-use Rattle.fs_state.specs.declared.conn.Parting.{Parting}
 use Rattle.fs_state.specs.declared.conn.Parting.TheVariants as parting
 use Rattle.fs_state.specs.declared.event.Event.{Event}
 use Rattle.fs_state.specs.declared.job.Asker.{Asker}
@@ -39,11 +36,10 @@ use Rattle.fs_state.specs.declared.job.Job.{Job}
 use Rattle.fs_state.specs.declared.job.JobWork.{JobWork}
 use Rattle.fs_state.specs.declared.job.JobWork.TheVariants.{Sleep, Originate}
 use Rattle.fs_state.specs.Switch.{Switch, empty, chan_at, with_chan, conn_of, job_of, job_at, orig_of, with_event, without_conn, without_job}
-use Rattle.fs_state.specs.Switch.{without_orig, with_new_job, next_orig_number, with_notice, with_frame_now, at_moment, after_entry}
-use Rattle.fs_state.specs.Posting.{with_posts}
+use Rattle.fs_state.specs.Switch.{without_orig, with_new_job, next_orig_number, with_notice, with_frame_now, at_moment}
 use Rattle.fs_state.specs.Bridging.{joined_as}
 use Rattle.fs_state.specs.Ending.{released, released_in, ended}
-use Rattle.fs_state.specs.Hangups.{lives, lives_at}
+use Rattle.fs_state.specs.Hangups.{lives}
 use Rattle.fs_state.specs.Moves.{orig_changed, orig_changed_from, leg_changed, report_event, plain_event, after_report, after_destroy}
 use Rattle.fs_machine.specs.declared.entry.Entry.{Entry}
 use Rattle.fs_machine.specs.declared.entry.Act.{Act}
@@ -53,21 +49,20 @@ use Rattle.fs_machine.specs.declared.entry.Closing.TheVariants as closing
 use Rattle.fs_machine.specs.declared.refusal.Refusal.TheVariants as refusal
 use Rattle.fs_machine.specs.declared.owing.Giver.{Giver}
 use Rattle.fs_machine.specs.declared.owing.Giver.TheVariants as giver
-use Rattle.fs_machine.specs.Entries.{cost_of}
 use Rattle.fs_machine.specs.Connections.{phase_of, phase_at, conn_changed, conn_changed_from, admitted, parted, owed_since, not_owed}
 use Rattle.fs_machine.specs.Connections.{with_subs_changed}
 use Rattle.fs_machine.specs.Owing.{after_job_begin, background_begun, after_job_end}
 use Rattle.fs_machine.specs.Originations.{after_winning, group_made}
-use Rattle.fs_machine.specs.Attempts.{originate_begun, first_group, orig_begun}
+use Rattle.fs_machine.specs.Attempts.{originate_begun, first_group}
 use Rattle.fs_machine.specs.Texts.{made_text, failed_text}
 use Rattle.fs_machine.specs.Jobs.{job_done, job_done_from}
 use Rattle.fs_machine.specs.Work.{after_work, after_work_from, after_work_in}
 use Rattle.fs_machine.specs.Controlling.{dial_at, is_left, conn_behind, after_letting_go, after_leavings}
-use Rattle.fs_machine.specs.Step.{reads, refusal_of, refused_act, refused_where, refused_command, acted, act_done, after_close, step}
+use Rattle.fs_machine.specs.Step.{reads, refusal_of, refused_act, acted, act_done, after_close, step}
 use Rattle.fs_machine.specs.Runs.{run_from, IsRunFrom}
 use Rattle.fs_machine.specs.Sound.{IsStill}
-use Rattle.fs_machine.proofs.Kept.{Stage, Fact, AreDead, Stays, raced, KeptByTouches, KeptByCalls, KeptByJobs, KeptByDials, KeptByApi}
-use Rattle.fs_machine.proofs.Kept.{KeptByCommands, KeptByVisits, KeptByMoves}
+use Rattle.fs_machine.proofs.Kept.{Stage, Fact, AreDead, raced, KeptByTouches, KeptByCalls, KeptByJobs, KeptByDials, KeptByApi}
+use Rattle.fs_machine.proofs.Kept.{KeptByCommands, KeptByMoves}
 use Rattle.fs_machine.proofs.StayLemmas.{moved_there, dials_at_work}
 use Rattle.fs_machine.proofs.StopLemmas.{released_held}
 use Rattle.fs_machine.proofs.ControlLemmas.{behind_held}

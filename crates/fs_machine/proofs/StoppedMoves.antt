@@ -31,16 +31,16 @@ use Rattle.fs_machine.specs.Controlling.{is_left, conn_behind, controller, after
 use Rattle.fs_machine.specs.Connections.{phase_at, conn_changed, conn_changed_from, admitted, parted, owed_since, not_owed, with_subs_changed}
 use Rattle.fs_machine.specs.Owing.{after_job_begin, background_begun, after_job_end}
 use Rattle.fs_machine.specs.Originations.{MadeGroup, after_winning, group_made}
-use Rattle.fs_machine.specs.Attempts.{originate_begun, first_group, orig_begun}
+use Rattle.fs_machine.specs.Attempts.{originate_begun, first_group}
 use Rattle.fs_machine.specs.Questions.{parting_at}
 use Rattle.fs_machine.specs.Texts.{made_text, failed_text}
-use Rattle.fs_machine.specs.Step.{reads, new_conn, act_done, step}
+use Rattle.fs_machine.specs.Step.{reads, new_conn, step}
 use Rattle.fs_machine.specs.Runs.{run_from, IsRunFrom}
 use Rattle.fs_machine.proofs.Kept.{Fact, LeavesBy, raced, KeptByApi, KeptByMoves}
 use Rattle.fs_machine.proofs.ActWalk.{acted_kept}
 use Rattle.fs_machine.proofs.ControlLemmas.{behind_held}
 use Rattle.fs_machine.proofs.RestLemmas.{Rest, rest_of, calls_by_rest, dials_by_rest, group_made_rest, won_rest}
-use Rattle.fs_machine.proofs.StillMoves.{IsOver, reads_none, stopped_is_over}
+use Rattle.fs_machine.proofs.StillMoves.{reads_none, stopped_is_over}
 
 -- whoever stands there and has parted for the end of the switch has seen it
 abbrev SawEnd : Option ℕ → Option (Numbered Conn) → Type 0

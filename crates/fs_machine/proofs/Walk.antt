@@ -23,7 +23,7 @@ use Rattle.fs_chan.specs.declared.chan.Chan.{Chan}
 use Rattle.fs_chan.specs.declared.peer.Direction.{Direction}
 use Rattle.fs_chan.specs.declared.target.Target3.{Target3}
 use Rattle.fs_chan.specs.declared.wait.Wait.{Wait}
-use Rattle.fs_chan.specs.declared.wait.Wait.TheVariants.{Ready, Sleep, Parked, FifoIn, FifoOut, Legs, Socket}
+use Rattle.fs_chan.specs.declared.wait.Wait.TheVariants.{Ready, Sleep, Parked, FifoOut, Legs, Socket}
 use Rattle.fs_chan.specs.Bridging.{exported_pairs, with_disposition}
 use Rattle.fs_chan.specs.Changes.{IsShortTarget, is_live, in_state, with_answer_place, at_rest, transferred, parked, asleep}
 use Rattle.fs_chan.specs.Changes.{may_route, routed}

@@ -1,17 +1,13 @@
 -- The walk through a bridge that is won: a leg is joined to the channel that dialed it, where they can be joined.
-use Rattle.std.proofs.Common.{◌≡◌, ◌≢◌, ℕ, ◌==◌, Bool, true, false, if◌then◌else◌, Option, None, Some, refl, sym, ap, ◌∙◌}
+use Rattle.std.proofs.Common.{◌≡◌, ℕ, Bool, true, false, if◌then◌else◌, Option, None, Some, refl, sym, ap, ◌∙◌}
 use Rattle.std.proofs.Common.{true≢false}
-use Rattle.std.specs.Prelude.{◌&&◌, not, is_none, codes}
-use Rattle.std.proofs.lemmas.Bool.{false≢true, ne_eqb}
-use Rattle.std.proofs.lemmas.Cmp.{nat_eq_equiv}
-use Rattle.fs_bridge.specs.Bridges.{has_number_left}
+use Rattle.std.specs.Prelude.{codes}
 use Rattle.fs_bridge.specs.declared.row.BridgeKind.TheVariants.{Dial}
-use Rattle.fs_bridge.specs.declared.row.Row.{Row}
 use Rattle.fs_chan.specs.Bridging.{in_media}
 use Rattle.fs_orig.specs.declared.orig.Orig.{Orig}
 use Rattle.fs_orig.specs.Changes.{with_answer}
 use Rattle.fs_seats.proofs.RowLemmas.{held_put}
-use Rattle.fs_state.specs.Switch.{Switch, with_chan, bridge_at, orig_of}
+use Rattle.fs_state.specs.Switch.{Switch, with_chan, orig_of}
 use Rattle.fs_state.specs.Moves.{after_move, after_answer, orig_changed_from, leg_changed}
 use Rattle.fs_state.specs.Hangups.{lives, lives_at}
 use Rattle.fs_state.specs.Bridging.{can_join, joined_as}

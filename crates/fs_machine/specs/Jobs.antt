@@ -1,5 +1,5 @@
 -- Jobs: work that goes on behind a command, until its answer is given.
-use Rattle.std.specs.Prelude.{ℕ, ◌*◌, Option, None, Some}
+use Rattle.std.specs.Prelude.{ℕ, Option, None, Some}
 use Rattle.fs_text.specs.Texts.{Text}
 use Rattle.fs_api.specs.Readings.{api_of}
 use Rattle.fs_state.specs.declared.job.Asker.{Asker}

@@ -37,5 +37,6 @@ pub mod Sound
 pub mod Winners
 pub mod Journals
 pub mod Laws
+pub mod Routes
 pub mod Turned
 pub mod Carried

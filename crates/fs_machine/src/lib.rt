@@ -25,6 +25,7 @@ mod laws;
 mod leaving;
 mod machine;
 mod messages;
+mod offer;
 mod originations;
 mod owing;
 mod questions;
@@ -33,11 +34,14 @@ mod refusal;
 mod refused;
 mod replies;
 mod reply;
+mod routes;
+mod routing;
 mod shutdown;
 mod standing;
 mod subscribing;
 mod terms;
 mod texts;
+mod touches;
 mod turned;
 mod work;
 
@@ -52,6 +56,8 @@ pub use laws::{
     takers_are_due, winners_can_join,
 };
 pub use machine::{Change, Machine};
-pub use refusal::Refusal;
+pub use offer::Offer;
+pub use refusal::{Refusal, RouteRefusal};
 pub use reply::Reply;
+pub use routes::{Plan, Snapshot};
 pub use standing::Standing;

@@ -1,6 +1,6 @@
 //! A switch with the journal of its entries: an entry is judged and prepared, and then done.
 
-ghost use Rattle.std.specs.Prelude.{◌≡◌, ◌≤◌, [], ◌∷◌, ◌++◌, false, None, IfOk, IfErr, OnOk};
+ghost use Rattle.std.specs.Prelude.{◌≡◌, ◌≤◌, [], ◌∷◌, ◌++◌, false, None, Some, IfOk, IfErr, OnOk};
 ghost use Rattle.fs_doc.specs.Limits.{IsWithin};
 ghost use Rattle.fs_state.specs.declared.delta.OutboxChange.TheVariants.{Unchanged};
 ghost use Rattle.fs_state.specs.Drafts.{after, drafted, Fits};
@@ -16,6 +16,7 @@ use crate::journal::Journal;
 use crate::refusal::Refusal;
 use crate::refused::refused_act;
 use crate::reply::Reply;
+use crate::touches::Touches;
 use fs_doc::Config;
 use fs_plan::Dialplan;
 use fs_seats::Boxed;
@@ -33,10 +34,12 @@ pub struct Machine {
     // What it started from.
     pub(crate) config: Arc<Config>,
     pub(crate) core: Core,
-    dialplan: Dialplan,
-    journal: Journal,
+    pub(crate) dialplan: Arc<Dialplan>,
+    pub(crate) journal: Journal,
     // What the last entry was noted on, for the next one.
     blank: Option<Blank>,
+    // How often what the routes of channels rest on was changed.
+    pub(crate) touches: Touches,
 }
 
 impl Drop for Machine {
@@ -47,6 +50,7 @@ impl Drop for Machine {
             dialplan: _dialplan,
             journal: _journal,
             blank: _blank,
+            touches: _touches,
         } = self;
     }
 }
@@ -89,6 +93,7 @@ impl Model for Machine {
     ghost use Rattle.std.specs.Arc.{arc_value};
     ghost use Rattle.std.specs.Prelude.{◌≡◌};
     ghost use Rattle.fs_doc.specs.Limits.{IsWithin};
+    ghost use Rattle.fs_machine.specs.Routes.{AreKept};
     ghost use Rattle.fs_machine.specs.Runs.{View, StandsFor};
 
     ghost Value = { View };
@@ -97,8 +102,10 @@ impl Model for Machine {
 
     ghost invariant = { λ m. StandsFor (arc_value m.config) m.core m.journal.entries
         × (m.core.settings ≡ (arc_value m.config).settings)
-        × (m.dialplan ≡ m.core.contexts)
-        × IsWithin (arc_value m.config) };
+        × (arc_value m.dialplan ≡ m.core.contexts)
+        × IsWithin (arc_value m.config)
+        × (m.core.contexts ≡ (arc_value m.config).contexts)
+        × AreKept (arc_value m.config) m.journal.entries m.touches };
 }
 
 impl Machine {
@@ -110,8 +117,11 @@ impl Machine {
     {
         config.within();
         let config = Arc::new(alloc, config)?;
+        let dialplan = Arc::new(alloc, dialplan)?;
+        let core = Core::new(alloc, config.clone()?)?;
         Ok(Machine {
-            core: Core::new(alloc, config.clone()?)?,
+            touches: Touches::none(alloc, core.slots())?,
+            core,
             config,
             dialplan,
             journal: Journal::new(alloc),
@@ -146,6 +156,7 @@ impl Machine {
             dialplan: _dialplan,
             journal,
             blank: _blank,
+            touches: _touches,
         } = self;
         journal
     }
@@ -163,8 +174,8 @@ impl Machine {
         prepare_entry(&self.core, blank, &self.dialplan, asked)
     }
 
-    // What the entry in hand is noted on.
-    fn take_blank(&mut self) -> Result<Blank, Memory>
+    /// What the entry in hand is noted on.
+    pub(crate) fn take_blank(&mut self) -> Result<Blank, Memory>
         ensures same { spec.IsSame self.old self.new }
         ensures room { self.new.spare ≡ self.old.spare }
     {
@@ -184,6 +195,7 @@ impl Machine {
         ensures cost { (spec.state_of self.new).cost ≡ cost_with change.entry.act (spec.state_of self.old) }
     {
         let (entry, delta, reply) = change.into_parts();
+        self.touches.note(&self.core, &delta);
         let blank = self.core.apply(delta, entry.act.cost());
         self.blank = Some(blank);
         self.journal.add(entry);
@@ -208,7 +220,7 @@ impl Machine {
 }
 
 // Judges an entry over a state, and prepares what it changes.
-#[tactic(auto, unfolding(crate::specs::Step::step, crate::specs::Step::refusal_of))]
+#[tactic(auto, unfolding(crate::specs::Step::step))]
 fn prepare_entry(
     core: &Core,
     blank: Blank,
@@ -221,14 +233,7 @@ fn prepare_entry(
     ensures prepared { IfOk result (λ change. (change.entry ≡ asked.entry.now)
         × spec.IsPrepared core.now asked.entry.now change.delta change.reply) }
 {
-    if core.is_full() {
-        let limit = core.settings().journal_limit;
-        let cost = core.cost();
-        return Err(Refusal::JournalFull { cost, limit });
-    }
-    if let Some(refusal) = refused_act(&Seen::of(core, asked.moment), &asked.act) {
-        return Err(refusal);
-    }
+    judge(core, asked)?;
     let mut draft = Draft::new(core, blank);
     draft.advance(asked.moment);
     let (entry, reply) = enter(&mut draft, dialplan, asked)?;
@@ -239,6 +244,24 @@ fn prepare_entry(
         delta,
         reply,
     })
+}
+
+/// Judges an entry over a state: whether it is refused, and why.
+#[tactic(auto, unfolding(crate::specs::Step::refusal_of))]
+pub(crate) fn judge(core: &Core, asked: &Entry) -> Result<(), Refusal>
+    ensures refused { IfErr result (λ refusal. refusal_of core.now asked.now ≡ Some refusal) }
+    ensures free { OnOk result (HasRoomWithin core.now.settings.journal_limit core.now) }
+    ensures defined { OnOk result (refusal_of core.now asked.now ≡ None) }
+{
+    if core.is_full() {
+        let limit = core.settings().journal_limit;
+        let cost = core.cost();
+        return Err(Refusal::JournalFull { cost, limit });
+    }
+    match refused_act(&Seen::of(core, asked.moment), &asked.act) {
+        Some(refusal) => Err(refusal),
+        None => Ok(()),
+    }
 }
 
 // Does an entry that is not refused to a draft, and copies it.

@@ -42,3 +42,12 @@ impl From<AllocError> for Refusal {
         Refusal::Memory
     }
 }
+
+/// Why a route that was planned beside the switch is refused. It changes nothing then.
+#[derive(Clone, Copy, Debug, PartialEq, Eq)]
+pub enum RouteRefusal {
+    /// What the route rests on is not what was seen: so many entries have changed it so far. A new plan is to be made.
+    Again { touched: u64 },
+    /// The entry is refused.
+    Step(Refusal),
+}

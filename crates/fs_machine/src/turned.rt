@@ -1,37 +1,46 @@
 //! The machine as a state that takes entries in turn.
 
+ghost use Rattle.std.specs.Prelude.{◌≡◌, ◌++◌, ◌∷◌, [], MatchResult};
+ghost use Rattle.fs_machine.specs.Turned.{Tells, Refuses};
+ghost use Rattle.fs_machine.specs.Standing.{standing_by};
+ghost use Rattle.fs_machine.specs.Runs.{state_of};
+
 use crate::answer::Answer;
-use crate::entry::Entry;
+use crate::entry::{Act, Entry};
 use crate::machine::Machine;
-use crate::refusal::Refusal;
+use crate::offer::Offer;
+use crate::refusal::{Refusal, RouteRefusal};
+use crate::reply::Reply;
+use crate::routes::Plan;
 use fs_book::Turned;
 use fs_doc::Config;
 
 impl Turned for Machine {
     ghost use Rattle.fs_book.specs.Numbered.{by_history_once};
-    ghost use Rattle.fs_machine.specs.Turned.{Tells, Refuses, opens, names, comes_after};
+    ghost use Rattle.fs_machine.specs.Turned.{Takes, Declines, Fits, opens, names, comes_after};
+    ghost use Rattle.fs_machine.specs.Routes.{entry_of};
 
     type Start = Config;
 
-    type Entry = Entry;
+    type Entry = Offer;
 
     type Logged = Entry;
 
     type Answer = Answer;
 
-    type Refusal = Refusal;
+    type Refusal = RouteRefusal;
 
     ghost start = { λ m. m.config };
 
     ghost journal = { λ m. m.journal };
 
-    ghost logged = { λ entry. entry };
+    ghost logged = { entry_of };
 
-    ghost fits = { λ _ _ _. Unit {0} };
+    ghost fits = { λ config _ submitted. Fits config submitted };
 
-    ghost answers = { Tells };
+    ghost answers = { Takes };
 
-    ghost refuses = { Refuses };
+    ghost refuses = { Declines };
 
     ghost opens = { opens };
 
@@ -41,24 +50,36 @@ impl Turned for Machine {
 
     ghost fits_longer = { λ _ _ _ _ _ fit. fit };
 
-    fn turn(&mut self, entry: Entry) -> Result<Answer, Refusal> {
+    fn turn(&mut self, submitted: Offer) -> Result<Answer, RouteRefusal> {
         self.sound();
         let events = self.core.counts().all();
-        match self.step(&entry) {
-            Ok(reply) => {
-                let standing = self.standing_by(&entry.act);
-                let wakes = self.wakes_after(&entry.act, events);
-                Ok(Answer {
-                    reply,
-                    standing,
-                    wakes,
-                })
-            }
-            Err(refusal) => Err(refusal),
+        match submitted {
+            Offer::Entry(entry) => match self.step(&entry) {
+                Ok(reply) => Ok(self.answer(&entry.act, reply, events)),
+                Err(refusal) => Err(RouteRefusal::Step(refusal)),
+            },
+            Offer::Route { moment, slot, plan } => match self.apply_route(moment, slot, plan) {
+                Ok(reply) => Ok(self.answer(&Act::Work { slot }, reply, events)),
+                Err(refusal) => Err(refusal),
+            },
         }
     }
 
     fn place(&self) -> u64 {
         self.place()
+    }
+}
+
+impl Machine {
+    // What whoever submitted an act is answered, before which so many events had happened.
+    fn answer(&self, act: &Act, reply: Reply, events: u64) -> Answer
+        ensures reply { result.reply ≡ reply }
+        ensures standing { result.standing ≡ standing_by act.now (state_of self.now) }
+    {
+        Answer {
+            reply,
+            standing: self.standing_by(act),
+            wakes: self.wakes_after(act, events),
+        }
     }
 }

@@ -1,12 +1,13 @@
 //! What a channel does by itself, state by state.
 
-ghost use Rattle.std.specs.Prelude.{◌≡◌, true, IfSome, IfOk, OnOk};
+ghost use Rattle.std.specs.Prelude.{◌≡◌, true, Some, IfSome, IfOk, OnOk};
 ghost use Rattle.fs_chan.specs.Changes as changes;
 ghost use Rattle.fs_chan.specs.Changes.{may_route};
 ghost use Rattle.fs_chan.specs.declared.wait.Wait.TheVariants.{Legs};
 ghost use Rattle.fs_state.specs.Drafts.{drafted, Brings};
 ghost use Rattle.fs_state.specs.Switch.{chan_at};
 ghost use Rattle.fs_state.specs.Moves.{after_move};
+ghost use Rattle.fs_machine.specs.Routes.{IsHunted};
 ghost use Rattle.fs_machine.specs.Work as spec;
 
 use crate::applications::run_next;
@@ -87,6 +88,29 @@ fn route(draft: &mut Draft<'_>, dialplan: &Dialplan, slot: u16) -> Result<(), Me
         Some(hunt) => take_hunt(draft, slot, xml, hunt),
         None => draft.hang_up(slot, too_long_cause(xml)),
     }
+}
+
+/// Does what the channel in a slot has to do by itself that is to be routed, by what a hunt for it has given.
+pub(crate) fn work_by(draft: &mut Draft<'_>, slot: u16, hunt: Hunt) -> Result<(), Memory>
+    requires { IsHunted slot hunt (drafted draft.old) }
+    ensures { Brings result draft.old draft.new (spec.after_work slot (drafted draft.old)) }
+{
+    route_by(draft, slot, hunt)
+}
+
+// Routes a channel by what a hunt for it has given, unless it was routed too often.
+fn route_by(draft: &mut Draft<'_>, slot: u16, hunt: Hunt) -> Result<(), Memory>
+    requires { IfSome (chan_at (drafted draft.old) slot) (λ c. spec.found_for c (drafted draft.old) ≡ Some hunt) }
+    ensures { Brings result draft.old draft.new (spec.after_routing slot (drafted draft.old)) }
+{
+    let Some(chan) = draft.chan(slot) else {
+        return Ok(());
+    };
+    if !chan.may_route() {
+        return draft.hang_up(slot, Cause::ExchangeRoutingError);
+    }
+    let xml = has_xml(chan);
+    take_hunt(draft, slot, xml, hunt)
 }
 
 // Why a channel is hung up for which a text is too long: one with the dialplan of the documents, or another.

@@ -6,8 +6,10 @@ use Rattle.fs_state.specs.declared.delta.Delta.{Delta}
 use Rattle.fs_machine.specs.declared.entry.Entry.{Entry}
 use Rattle.fs_machine.specs.declared.reply.Reply.{Reply}
 use Rattle.fs_machine.specs.Entries.{cost_of}
+use Rattle.fs_machine.specs.Routes.{AreCountedOn}
 use Rattle.fs_machine.specs.Runs.{View, state_of, IsPrepared}
 use Rattle.fs_machine.proofs.RunLemmas.{stands_more, cost_more}
+use Rattle.fs_machine.proofs.TouchLemmas.{kept_more}
 use Rattle.fs_machine.proofs.machine.Machine.apply.Goals as goal
 
 -- src/machine.rt:78:5
@@ -21,12 +23,18 @@ invariant_of-self c =
     let priced = c.apply-blank.ensures ∙ ap (λ cost. after_entry cost (after kept c.into_parts-entry.result.1)) c.cost.ensures.exact in
     let done = priced ∙ ap (λ (t : Entry × Delta × Reply). after_entry (cost_of t.0.act) (after kept t.1)) parts in
     let P : View → Type 0 = λ view. IsPrepared (state_of view) entry c.args.change.delta c.args.change.reply in
+    let noted = c.deref.ensures ∙ ap (λ (t : Entry × Delta × Reply). t.1) parts in
+    let counted =
+    subst (λ (d : Delta). AreCountedOn kept (after kept d) c.self.inside.touches c.note.new.self) noted c.note.ensures.counted in
     rw (done, added) (
       stands_more (arc_value c.self.inside.config) kept entries entry c.args.change.delta c.args.change.reply c.self.invariant.0
           (subst P (sym c.self.view_is) c.requires.prepared),
       c.self.invariant.1,
       c.self.invariant.2,
       c.self.invariant.3,
+      c.self.invariant.4,
+      kept_more (arc_value c.self.inside.config) kept entries entry c.args.change.delta c.args.change.reply c.self.inside.touches
+          c.note.new.self c.self.invariant.0 (subst P (sym c.self.view_is) c.requires.prepared) c.self.invariant.5 counted c.note.ensures.all,
     )
 
 pub returns-clause-cost : goal.returns-clause-cost

@@ -1,0 +1,28 @@
+use Rattle.std.proofs.Common.{sym, ap, subst, ◌∙◌}
+use Rattle.std.specs.Arc.{arc_value}
+use Rattle.std.specs.Option.{option_copied}
+use Rattle.fs_machine.specs.declared.routes.Snapshot.{Snapshot}
+use Rattle.fs_machine.specs.Routes.{Shows, routing_in}
+use Rattle.fs_machine.specs.Runs.{View}
+use Rattle.fs_machine.proofs.RouteLemmas.{shows}
+use Rattle.fs_machine.proofs.machine.Machine.snapshot.Goals as goal
+
+pub returns : goal.returns
+returns c =
+    let kept = c.self.invariant in
+    let seen : Snapshot = record {
+      uuid = c.in_ok-copy.field-0;
+      touched = c.of.result;
+      vars = c.in_ok-copy-3.field-0;
+      profile = c.in_ok-copy-2.field-0;
+      globals = c.in_ok-copy-4.field-0;
+      dialplan = c.in_ok-clone.field-0;
+    } in
+    subst (λ (view : View). Shows view c.args.slot seen) c.self.view_is
+    (shows (arc_value c.self.inside.config) c.self.inside.core c.self.inside.journal.entries c.self.inside.touches c.self.inside.journal.spare
+    c.args.slot c.in-Some.chan.now seen kept.0 kept.4 kept.5
+    (sym (ap routing_in c.chan.ensures) ∙ (sym c.to_route.ensures ∙ ap option_copied c.in-Some.is))
+    (sym c.may_route.ensures ∙ c.if-not-may_route.false)
+    (record { uuid = sym c.in_ok-copy.ensures; vars = sym c.in_ok-copy-3.ensures; profile = sym c.in_ok-copy-2.ensures })
+    (sym (c.in_ok-copy-4.ensures ∙ c.globals.ensures)) c.of.ensures
+    (c.in_ok-clone.ensures.cases ∙ kept.2))

@@ -1,0 +1,128 @@
+//! Channels are routed by plans that were made beside the switch.
+
+ghost use Rattle.std.specs.Prelude.{◌≡◌, ◌≢◌, ◌≤◌, ◌↔◌, [], ◌∷◌, ◌++◌, None, Some, true, IfOk, IfErr, OnOk, MatchOption, IsTrue, false};
+ghost use Rattle.std.specs.Arc.{arc_value};
+ghost use Rattle.fs_state.specs.Switch.{HasRoomWithin};
+ghost use Rattle.fs_machine.specs.Entries.{cost_with};
+ghost use Rattle.fs_machine.specs.Routes as spec;
+ghost use Rattle.fs_machine.specs.Runs.{state_of, IsSame, IsPrepared, Changes};
+ghost use Rattle.fs_machine.specs.Step.{step, refusal_of, IsRefusedFor};
+
+use crate::controlling::part_left;
+use crate::entry::{Act, Entry};
+use crate::machine::{Change, Machine, judge};
+use crate::refusal::{Refusal, RouteRefusal};
+use crate::reply::Reply;
+use crate::routes::{Plan, Snapshot};
+use crate::touches::to_route;
+use crate::work::work_by;
+use fs_plan::Hunt;
+use fs_state::{Blank, Core, Draft};
+use fs_text::Memory;
+
+impl Machine {
+    /// What a route of the channel in a slot rests on. None where it is not to be routed, or was routed 70 times.
+    pub fn snapshot(&self, slot: u16) -> Result<Option<Snapshot>, Memory>
+        ensures { IfOk result (λ seen. MatchOption seen (spec.is_routable slot (state_of self.now) ≡ false)
+            (spec.Shows self.now slot)) }
+    {
+        let Some(chan) = to_route(self.core.chan(slot)) else {
+            return Ok(None);
+        };
+        if !chan.may_route() {
+            return Ok(None);
+        }
+        Ok(Some(Snapshot {
+            uuid: chan.uuid.copy()?,
+            touched: self.touches.of(slot),
+            dialplan: self.dialplan.clone()?,
+            profile: chan.profile.copy()?,
+            vars: chan.vars.copy()?,
+            globals: self.core.globals().copy()?,
+        }))
+    }
+
+    /// Enters the work of a slot at a moment, in microseconds, by a plan that was made for its channel. Where what the
+    /// plan rests on is not what stands there any more, nothing changes, and no memory is taken.
+    pub fn apply_route(&mut self, now: u64, slot: u16, plan: Plan) -> Result<Reply, RouteRefusal>
+        requires { spec.Suits self.old.config plan }
+        ensures refused { IfErr result (λ refusal. IsSame self.old self.new) }
+        ensures cause { IfErr result (spec.IsRouteRefusal self.old now slot plan) }
+        ensures current { OnOk result (spec.IsCurrent slot plan (state_of self.old)) }
+        ensures config { self.new.config ≡ self.old.config }
+        ensures journal { OnOk result (self.new.journal ≡ self.old.journal ++ spec.work_at now slot ∷ []) }
+        ensures reply { IfOk result (λ reply. reply ≡ (step (state_of self.old) (spec.work_at now slot)).reply) }
+        ensures defined { OnOk result (refusal_of (state_of self.old) (spec.work_at now slot) ≡ None) }
+        ensures free { OnOk result (HasRoomWithin self.old.config.settings.journal_limit (state_of self.old)) }
+        ensures cost { OnOk result
+            ((state_of self.new).cost ≡ cost_with (spec.work_at now slot).act (state_of self.old)) }
+    {
+        if !self.is_current(slot, &plan.seen) {
+            let touched = self.touches.of(slot);
+            return Err(RouteRefusal::Again { touched });
+        }
+        match self.prepare_route(now, slot, plan) {
+            Ok(change) => Ok(self.apply(change)),
+            Err(refusal) => Err(RouteRefusal::Step(refusal)),
+        }
+    }
+
+    // Whether what was seen is what the route of the channel in a slot rests on.
+    fn is_current(&self, slot: u16, seen: &Snapshot) -> bool
+        ensures { IsTrue result ↔ (spec.basis_at slot (state_of self.now) ≡ Some (spec.shown seen.now)) }
+    {
+        let Some(chan) = to_route(self.core.chan(slot)) else {
+            return false;
+        };
+        let alike = seen.shows(chan);
+        alike && self.core.globals().is_same(&seen.globals)
+    }
+
+    // Judges the work of a slot, and prepares what it changes by a plan.
+    fn prepare_route(&mut self, now: u64, slot: u16, plan: Plan) -> Result<Change, Refusal>
+        requires suits { spec.Suits self.old.config plan }
+        requires current { spec.IsCurrent slot plan (state_of self.old) }
+        ensures same { IsSame self.old self.new }
+        ensures refused { IfErr result (IsRefusedFor (state_of self.old) (spec.work_at now slot)) }
+        ensures free { OnOk result (HasRoomWithin self.old.config.settings.journal_limit (state_of self.old)) }
+        ensures prepared { IfOk result (Changes (state_of self.old) (spec.work_at now slot)) }
+        ensures room { IfOk result (λ change. 1 ≤ self.new.spare) }
+    {
+        self.journal.make_room()?;
+        let blank = self.take_blank()?;
+        prepare_hunted(&self.core, blank, now, slot, plan.into_hunt())
+    }
+}
+
+// Judges the work of a slot over a state, and prepares what it changes by what a hunt has given.
+#[tactic(auto, unfolding(crate::specs::Step::step))]
+fn prepare_hunted(
+    core: &Core,
+    blank: Blank,
+    now: u64,
+    slot: u16,
+    hunt: Hunt,
+) -> Result<Change, Refusal>
+    requires { spec.IsHunted slot hunt core.now }
+    ensures refused { IfErr result (IsRefusedFor core.now (spec.work_at now slot)) }
+    ensures free { OnOk result (HasRoomWithin core.now.settings.journal_limit core.now) }
+    ensures prepared { IfOk result (λ change. (change.entry ≡ spec.work_at now slot)
+        × IsPrepared core.now (spec.work_at now slot) change.delta change.reply) }
+{
+    let entry = Entry {
+        moment: now,
+        act: Act::Work { slot },
+    };
+    judge(core, &entry)?;
+    let mut draft = Draft::new(core, blank);
+    draft.advance(now);
+    work_by(&mut draft, slot, hunt)?;
+    part_left(&mut draft)?;
+    draft.post()?;
+    let delta = draft.finish()?;
+    Ok(Change {
+        entry,
+        delta,
+        reply: Reply::Worked,
+    })
+}

@@ -23,6 +23,7 @@ use Rattle.fs_machine.specs.Laws.{state_after}
 use Rattle.fs_machine.specs.Questions.{jobs_left}
 use Rattle.fs_machine.specs.Sound.{IsSound}
 use Rattle.fs_machine.specs.Step.{refused_as_full, refused_where, IsRefusedFor}
+use Rattle.fs_machine.specs.Turned.{Refuses}
 use Rattle.fs_machine.proofs.RefusalLemmas.{full_refused}
 use Rattle.fs_session.specs.declared.actor.Actor.{Actor}
 use Rattle.fs_session.specs.declared.actor.Actor.TheVariants.{Slot, Jobs}
@@ -56,7 +57,7 @@ same_full s cost limit full by_cost by_limit =
     ∙ ap (λ l. Some (refusal.JournalFull cost l)) (sym by_limit)
 
 -- a refusal that is final and is not for want of memory comes where the journal is full
-pub final_refused : (s : Switch) (entry : Entry) (why : Refusal) → IsRefusedFor s entry why → is_final why ≡ true →
+final_refused : (s : Switch) (entry : Entry) (why : Refusal) → IsRefusedFor s entry why → is_final why ≡ true →
     why ≢ refusal.Memory → refused_as_full s ≡ Some why
 final_refused s entry (refusal.JournalFull cost limit) refused final other =
     let full = full_refused s entry cost limit (refused other) in same_full s cost limit full.0 full.1 full.2
@@ -67,6 +68,15 @@ final_refused s entry (refusal.Busy since) refused final other = absurd (cc fina
 final_refused s entry refusal.Empty refused final other = absurd (cc final)
 final_refused s entry (refusal.Unsent queued owed) refused final other = absurd (cc final)
 final_refused s entry (refusal.NotDue next) refused final other = absurd (cc final)
+
+-- an entry was refused for good
+pub fails_for : (config : Configuration) (seen : List Entry) (mine : List ℕ) (seen' : List Entry) (mine' : List ℕ)
+    (entry : Entry) (why : Refusal) → IsPrefix seen seen' → mine' ≡ mine → Refuses config seen' entry why →
+    is_final why ≡ true → Fails config seen mine seen' mine' why
+fails_for config seen mine seen' mine' entry why front same refused final = record {
+  stays = record { front = front; same = same; run = refused.before };
+  cause = final_refused (state_after config seen') entry why refused.cause final;
+}
 
 -- ---- what is due to whom
 
@@ -155,7 +165,8 @@ module _ (who : Actor) (now : ℕ) (s : Switch) where
   due_errand due is = let has = due_stands due is in subst IsErrand has.0 (no_dial_of who now s has.1)
 
   -- what is to be done by an actor is a turn of it
-  pub due_turn : (due : DueActor) (todo : Errand) → standing who now s ≡ Due due → errand_of due ≡ Ok todo → IsTurnOf who (act_of todo)
+  due_turn : (due : DueActor) (todo : Errand) → standing who now s ≡ Due due → errand_of due ≡ Ok todo →
+      IsTurnOf who (act_of todo)
   due_turn (actor.Slot slot) todo is done =
       let same : errand.Slot slot ≡ todo = cc done in
       subst (λ (e : Errand). IsTurnOf who (act_of e)) same (turn_of_slot who now slot s (due_stands (actor.Slot slot) is).0)
@@ -255,8 +266,8 @@ module _ (config : Configuration) (seen mid : List Entry) (mine mine' : List ℕ
   tries_on who now None tries = stays_on tries
   tries_on who now (Some worked) tries = works_on who now worked tries
 
-  -- what came of a try is what came of a turn of the actor to whom it is due
-  pub tries_by : (who : Actor) (todo : Errand) (now : ℕ) (worked : Option Worked) → IsTurnOf who (act_of todo) →
+  -- what came of a try is what came of a turn of the actor whose turn it is
+  tries_by : (who : Actor) (todo : Errand) (now : ℕ) (worked : Option Worked) → IsTurnOf who (act_of todo) →
       Attempts config mid mine' seen'' mine'' todo now worked → Tries config seen mine seen'' mine'' who now worked
   tries_by who todo now None turn tries = stays_on tries
   tries_by who todo now (Some (Did place wakes)) turn tries =
@@ -266,3 +277,10 @@ module _ (config : Configuration) (seen mid : List Entry) (mine mine' : List ℕ
   tries_by who todo now (Some (Idle next)) turn tries = absurd tries
   tries_by who todo now (Some (Talk target)) turn tries = absurd tries
   tries_by who todo now (Some Stopped) turn tries = absurd tries
+
+  -- so what came of trying what is to be done by an actor, as it stood before
+  pub tries_due : (who : Actor) (due : DueActor) (todo : Errand) (now : ℕ) (worked : Option Worked) →
+      standing who now (state_after config mid) ≡ Due due → errand_of due ≡ Ok todo →
+      Attempts config mid mine' seen'' mine'' todo now worked → Tries config seen mine seen'' mine'' who now worked
+  tries_due who due todo now worked stands is =
+      tries_by who todo now worked (due_turn who now (state_after config mid) due todo stands is)

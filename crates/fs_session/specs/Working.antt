@@ -1,5 +1,6 @@
 -- What a turn does, and what comes of it where there is nothing to do.
 use Rattle.std.specs.Prelude.{◌≡◌, ◌≢◌, ℕ, ◌==◌, ◌&&◌, if◌then◌else◌, Bool, true, false, List, [], ◌∷◌, ◌++◌, length, Option, None, Some, Result, Ok, Err, is_some, is_none}
+use Rattle.std.specs.Arc.{arc_value}
 use mathlib.Core.List.{IsPrefix}
 use Rattle.fs_doc.specs.Reading.{Configuration}
 use Rattle.fs_text.specs.Texts.{Text}
@@ -26,7 +27,7 @@ use Rattle.fs_session.specs.declared.actor.Actor.TheVariants.{Slot, Jobs}
 use Rattle.fs_session.specs.declared.actor.Errand.{Errand}
 use Rattle.fs_session.specs.declared.actor.Errand.TheVariants as errand
 use Rattle.fs_session.specs.declared.standing.Standing.{Standing}
-use Rattle.fs_session.specs.declared.standing.Standing.TheVariants.{Full, Over, Seeks, Due}
+use Rattle.fs_session.specs.declared.standing.Standing.TheVariants.{Full, Over, Seeks, Routes, Due}
 use Rattle.fs_session.specs.declared.standing.StandingOf.{StandingOf}
 use Rattle.fs_session.specs.declared.worked.Worked.{Worked}
 use Rattle.fs_session.specs.declared.worked.Worked.TheVariants.{Did, Idle, Talk, Stopped, Refused}
@@ -63,14 +64,24 @@ abbrev pub standing : Actor → ℕ → Switch → Standing
 standing actor now s =
     standing_unless (refused_as_full s) (if is_over actor s then Over else seeking (sought_by actor s) (due_of actor now s))
 
+-- whoever is to be routed has something to do at once
+abbrev pub plain : Standing → Standing
+plain (Routes slot seen) = Due (due.Slot slot)
+plain how = how
+
+-- what is seen for a route has the dialplan that was configured
+abbrev pub IsOfDialplan : Configuration → Standing → Type 0
+IsOfDialplan config (Routes slot seen) = arc_value seen.dialplan ≡ config.contexts
+IsOfDialplan config _ = Unit {0}
+
 -- what a look tells: these entries are a run, and so the actor stands behind them, unless there was no memory
-abbrev pub IsStanding : Standing → Result Standing Memory → Type 0
-IsStanding how (Ok answer) = answer ≡ how
-IsStanding how (Err memory) = Unit {0}
+abbrev pub IsStanding : Configuration → Standing → Result Standing Memory → Type 0
+IsStanding config how (Ok answer) = (plain answer ≡ how) × IsOfDialplan config answer
+IsStanding config how (Err memory) = Unit {0}
 
 pub record TellsActor (asked : StandingOf) (config : Configuration) (log : List Entry) (answer : Result Standing Memory) : Type 0 where
   pub run : IsJournal config log
-  pub stands : IsStanding (standing asked.actor asked.now (state_after config log)) answer
+  pub stands : IsStanding config (standing asked.actor asked.now (state_after config log)) answer
 
 -- ---- what comes of a turn
 

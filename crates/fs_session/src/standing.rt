@@ -1,13 +1,14 @@
 //! How an actor stands, as a look finds it.
 
-ghost use Rattle.std.specs.Prelude.{◌≡◌, true};
+ghost use Rattle.std.specs.Prelude.{◌≡◌, true, IfOk};
 ghost use Rattle.std.specs.Option.{option_copied};
 ghost use Rattle.fs_machine.specs.Runs.{state_of};
+ghost use Rattle.fs_session.specs.declared.standing.Standing.TheVariants.{Due};
 ghost use Rattle.fs_session.specs.Working as spec;
 
 use crate::actor::Actor;
 use fs_book::Ask;
-use fs_machine::{DueActor, Machine, Refusal};
+use fs_machine::{DueActor, Machine, Refusal, Snapshot};
 use fs_text::{Memory, Txt};
 
 /// How an actor stands at a moment.
@@ -19,6 +20,8 @@ pub(crate) enum Standing {
     Over,
     /// Its channel waits for the controller that this text names.
     Seeks(Txt),
+    /// The channel in this slot is to be routed at once, and this is what its route rests on.
+    Routes { slot: u16, seen: Snapshot },
     /// This is to be done, at once or later.
     Due(DueActor),
 }
@@ -47,7 +50,7 @@ impl Ask<Machine> for StandingOf {
         }
         match sought_by(self.actor, state) {
             Some(text) => Ok(Standing::Seeks(text.copy()?)),
-            None => Ok(Standing::Due(due_at(self.actor, self.now, state))),
+            None => due_standing(self.actor, self.now, state),
         }
     }
 }
@@ -72,6 +75,20 @@ fn sought_by(actor: Actor, state: &Machine) -> Option<&Txt>
         Actor::Slot(slot) => state.dial_text(slot),
         Actor::Jobs => None,
     }
+}
+
+// What the actor has to do, seen at a moment, where its channel waits for no controller.
+fn due_standing(actor: Actor, now: u64, state: &Machine) -> Result<Standing, Memory>
+    ensures stands { IfOk result (λ how. spec.plain how ≡ Due (spec.due_of actor now (state_of state.now))) }
+    ensures routes { IfOk result (spec.IsOfDialplan state.now.config) }
+{
+    let due = due_at(actor, now, state);
+    if let DueActor::Slot(slot) = due {
+        if let Some(seen) = state.snapshot(slot)? {
+            return Ok(Standing::Routes { slot, seen });
+        }
+    }
+    Ok(Standing::Due(due))
 }
 
 // What the actor has to do, seen at a moment.

@@ -9,13 +9,13 @@ ghost use Rattle.fs_session.specs.Talking as spec;
 use crate::talked::Talked;
 use crate::working::is_final;
 use fs_book::{Book, Pass};
-use fs_machine::{Act, Answer, Entry, Machine, Reply};
+use fs_machine::{Act, Answer, Entry, Machine, Offer, Reply, RouteRefusal};
 use fs_out::{Target, dial};
 use fs_ports::{Dialed, Dialer};
 use std::sync::Wait;
 
-/// Dials the controller for whom the channel in a slot waits, and enters at a moment, in microseconds, whether there is a
-/// link to it. The dialing takes no turn at the lock, so it holds up nobody else, however long it takes.
+/// Dials the controller for whom the channel in a slot waits, and enters at a moment, in microseconds, whether there is
+/// a link to it. The dialing takes no turn at the lock, so it holds up nobody else, however long it takes.
 ///
 /// Where the entry opens a connection, that holds the channel, and `converse` of `fs_conn` serves it over the link. At
 /// the limit of connections it opens none. A link that serves none is dropped.
@@ -40,10 +40,11 @@ pub fn talk_once<R: Wait, O: Dialer>(
         slot,
         linked: link.is_some(),
     };
-    match book.submit(rt, pass, Entry { moment: now, act }) {
+    match book.submit(rt, pass, Offer::Entry(Entry { moment: now, act })) {
         Ok(receipt) => talked(receipt.place, receipt.answer, link),
-        Err(refusal) if is_final(refusal) => Talked::Refused(refusal),
-        Err(_) => Talked::Idle,
+        Err(RouteRefusal::Step(refusal)) if is_final(refusal) => Talked::Refused(refusal),
+        Err(RouteRefusal::Step(_)) => Talked::Idle,
+        Err(RouteRefusal::Again { .. }) => unreachable!(),
     }
 }
 

@@ -1,33 +1,43 @@
 //! A turn, beside others who enter.
 
 ghost use Rattle.std.specs.Prelude.{◌≡◌, true};
+ghost use Rattle.std.specs.Arc.{arc_value};
 ghost use Rattle.fs_book.specs.Passes.{seen, mine, met, parts, opening_state, IsPassOf};
 ghost use Rattle.fs_machine.specs.Controlling.{names_target};
-ghost use Rattle.fs_machine.specs.Turned.{configured};
+ghost use Rattle.fs_machine.specs.Routes.{Suits};
+ghost use Rattle.fs_machine.specs.Turned.{configured, IsJournal};
+ghost use Rattle.fs_session.specs.declared.actor.Errand.TheVariants.{Slot};
 ghost use Rattle.fs_session.specs.Working as spec;
 
 use crate::actor::{Actor, Errand};
 use crate::standing::{Standing, StandingOf};
 use crate::worked::Worked;
 use fs_book::{Book, Pass};
-use fs_machine::{Act, DueActor, Entry, Machine, Refusal};
+use fs_machine::{Act, DueActor, Entry, Machine, Offer, Plan, Refusal, RouteRefusal, Snapshot};
 use fs_out::{Target, TargetFault};
-use fs_text::Txt;
+use fs_ports::Gate;
+use fs_text::{Memory, Txt};
 use std::alloc::Global;
 use std::sync::Wait;
+
+// So many plans of a route may turn out to be stale before the channel is routed within its entry.
+const PLANS: u32 = 3;
 
 /// Does the one thing that an actor has to do at a moment, in microseconds, if there is any. A channel that waits for a
 /// controller waits on: the answer says who is to be dialed, as `talk_once` does.
 ///
-/// A slot is tried first and looked at only where it has nothing to do, so a busy one takes one turn of the lock for
-/// each entry. It never waits for anybody but those before it at the lock.
-pub fn work_once<R: Wait>(
+/// A channel that is to be routed has its route planned outside the lock, where the hunt passes the gate between two
+/// conditions, so however long that takes it holds up nobody else. Where what the route rests on has changed meanwhile,
+/// a new plan is made; behind three such plans, and where a text is too long, the hunt is part of the entry. It never
+/// waits for anybody but those before it at the lock.
+pub fn work_once<R: Wait, G: Gate>(
     rt: &R,
     alloc: Global,
     book: &Book<Machine>,
     pass: &mut Pass<Machine>,
     actor: Actor,
     now: u64,
+    gate: &mut G,
 ) -> Worked
     requires book { IsPassOf configured book.now pass.old }
     ensures book { IsPassOf configured book.now pass.new }
@@ -35,45 +45,27 @@ pub fn work_once<R: Wait>(
     ensures works { spec.Works (configured (opening_state book.now)) (seen pass.old) (mine pass.old)
         (seen pass.new) (mine pass.new) actor now result }
 {
-    let mut tried = begin(rt, alloc, book, pass, actor, now);
+    let mut plans = PLANS;
+    let mut tried = take_turn(rt, alloc, book, pass, actor, now, gate, &mut plans);
     'turns: for _ in rt.forever() {
         match tried {
             Some(worked) => return worked,
-            None => tried = take_turn(rt, alloc, book, pass, actor, now),
+            None => tried = take_turn(rt, alloc, book, pass, actor, now, gate, &mut plans),
         }
     }
     unreachable!()
 }
 
-// Tries a slot, or looks how the jobs stand.
-fn begin<R: Wait>(
-    rt: &R,
-    alloc: Global,
-    book: &Book<Machine>,
-    pass: &mut Pass<Machine>,
-    actor: Actor,
-    now: u64,
-) -> Option<Worked>
-    requires book { IsPassOf configured book.now pass.old }
-    ensures book { IsPassOf configured book.now pass.new }
-    ensures kept { (met pass.new ≡ met pass.old) × (parts pass.new ≡ parts pass.old) }
-    ensures tries { spec.Tries (configured (opening_state book.now)) (seen pass.old) (mine pass.old)
-        (seen pass.new) (mine pass.new) actor now result }
-{
-    match actor {
-        Actor::Slot(slot) => attempt(rt, book, pass, Errand::Slot(slot), now),
-        Actor::Jobs => take_turn(rt, alloc, book, pass, actor, now),
-    }
-}
-
 // Looks how an actor stands, and does what it has to do. Where others came between, nothing comes of it.
-fn take_turn<R: Wait>(
+fn take_turn<R: Wait, G: Gate>(
     rt: &R,
     alloc: Global,
     book: &Book<Machine>,
     pass: &mut Pass<Machine>,
     actor: Actor,
     now: u64,
+    gate: &mut G,
+    plans: &mut u32,
 ) -> Option<Worked>
     requires book { IsPassOf configured book.now pass.old }
     ensures book { IsPassOf configured book.now pass.new }
@@ -88,10 +80,74 @@ fn take_turn<R: Wait>(
         Standing::Full(refusal) => Some(Worked::Refused(refusal)),
         Standing::Over => Some(Worked::Stopped),
         Standing::Seeks(text) => Some(talk(alloc, &text)),
+        Standing::Routes { slot, seen } if *plans > 0 => {
+            route(rt, alloc, book, pass, slot, now, seen, gate, plans)
+        }
+        Standing::Routes { slot, .. } => attempt(rt, book, pass, Errand::Slot(slot), now),
         Standing::Due(due) => match errand_of(due) {
             Ok(errand) => attempt(rt, book, pass, errand, now),
             Err(next) => Some(Worked::Idle { next }),
         },
+    }
+}
+
+// Plans the route of the channel in a slot, and routes it so. Where the plan is stale, nothing comes of it.
+fn route<R: Wait, G: Gate>(
+    rt: &R,
+    alloc: Global,
+    book: &Book<Machine>,
+    pass: &mut Pass<Machine>,
+    slot: u16,
+    now: u64,
+    snapshot: Snapshot,
+    gate: &mut G,
+    plans: &mut u32,
+) -> Option<Worked>
+    requires book { IsPassOf configured book.now pass.old }
+    requires dialplan { arc_value snapshot.dialplan ≡ (configured (opening_state book.now)).contexts }
+    requires run { IsJournal (configured (opening_state book.now)) (seen pass.old) }
+    ensures book { IsPassOf configured book.now pass.new }
+    ensures kept { (met pass.new ≡ met pass.old) × (parts pass.new ≡ parts pass.old) }
+    ensures tries { spec.Attempts (configured (opening_state book.now)) (seen pass.old) (mine pass.old)
+        (seen pass.new) (mine pass.new) (Slot slot) now result }
+{
+    match snapshot.plan(alloc, gate) {
+        Ok(Some(plan)) => submit_route(rt, book, pass, slot, now, plan, plans),
+        Ok(None) => attempt(rt, book, pass, Errand::Slot(slot), now),
+        Err(Memory) => Some(Worked::Refused(Refusal::Memory)),
+    }
+}
+
+// Routes the channel in a slot by a plan. Where that is stale, nothing comes of it, and one plan less is left.
+fn submit_route<R: Wait>(
+    rt: &R,
+    book: &Book<Machine>,
+    pass: &mut Pass<Machine>,
+    slot: u16,
+    now: u64,
+    plan: Plan,
+    plans: &mut u32,
+) -> Option<Worked>
+    requires book { IsPassOf configured book.now pass.old }
+    requires suits { Suits (configured (opening_state book.now)) plan }
+    ensures book { IsPassOf configured book.now pass.new }
+    ensures kept { (met pass.new ≡ met pass.old) × (parts pass.new ≡ parts pass.old) }
+    ensures tries { spec.Attempts (configured (opening_state book.now)) (seen pass.old) (mine pass.old)
+        (seen pass.new) (mine pass.new) (Slot slot) now result }
+{
+    let offer = Offer::Route {
+        moment: now,
+        slot,
+        plan,
+    };
+    match book.submit(rt, pass, offer) {
+        Ok(receipt) => Some(Worked::Did(receipt.place, receipt.answer.wakes)),
+        Err(RouteRefusal::Step(refusal)) if is_final(refusal) => Some(Worked::Refused(refusal)),
+        Err(RouteRefusal::Step(_)) => None,
+        Err(RouteRefusal::Again { .. }) => {
+            *plans = plans.saturating_sub(1);
+            None
+        }
     }
 }
 
@@ -136,10 +192,11 @@ fn attempt<R: Wait>(
         (seen pass.new) (mine pass.new) errand now result }
 {
     let act = act_of(errand);
-    match book.submit(rt, pass, Entry { moment: now, act }) {
+    match book.submit(rt, pass, Offer::Entry(Entry { moment: now, act })) {
         Ok(receipt) => Some(Worked::Did(receipt.place, receipt.answer.wakes)),
-        Err(refusal) if is_final(refusal) => Some(Worked::Refused(refusal)),
-        Err(_) => None,
+        Err(RouteRefusal::Step(refusal)) if is_final(refusal) => Some(Worked::Refused(refusal)),
+        Err(RouteRefusal::Step(_)) => None,
+        Err(RouteRefusal::Again { .. }) => unreachable!(),
     }
 }
 

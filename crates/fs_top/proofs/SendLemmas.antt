@@ -20,7 +20,8 @@ use Rattle.fs_doc.specs.contracts.config.Config as Config
 use Rattle.fs_machine.specs.contracts.answer.Answer as Answer
 use Rattle.fs_machine.specs.contracts.entry.Entry as Entry
 use Rattle.fs_machine.specs.contracts.machine.Machine as Machine
-use Rattle.fs_machine.specs.contracts.refusal.Refusal as Refusal
+use Rattle.fs_machine.specs.contracts.offer.Offer as Offer
+use Rattle.fs_machine.specs.contracts.refusal.RouteRefusal as Refusal
 use Rattle.fs_machine.specs.contracts.turned.MachineTurned.TheImpl.{ghosts}
 use Rattle.fs_top.specs.contracts.lanes.Lane as Lane
 use Rattle.fs_top.specs.contracts.lanes.Staff as Staff
@@ -30,10 +31,10 @@ use Rattle.fs_top.specs.contracts.came.Came as Came
 use Rattle.fs_top.proofs.came.Came.TheSendSync as came
 use Rattle.fs_top.proofs.CrossingLemmas.{machine_send}
 
-pub pass_send : IsSend (Pass.the_row Machine.the_row Config.the_row Entry.the_row Entry.the_row Answer.the_row Refusal.the_row ghosts)
+pub pass_send : IsSend (Pass.the_row Machine.the_row Config.the_row Offer.the_row Entry.the_row Answer.the_row Refusal.the_row ghosts)
 pass_send = search (machine_send, passes.the_send, crosses, sendable) depth 20
 
-pub book_sync : IsSync (Book.the_row Machine.the_row Config.the_row Entry.the_row Entry.the_row Answer.the_row Refusal.the_row ghosts)
+pub book_sync : IsSync (Book.the_row Machine.the_row Config.the_row Offer.the_row Entry.the_row Answer.the_row Refusal.the_row ghosts)
 book_sync = search (machine_send, books.the_sync, crosses, sendable) depth 20
 
 pub global_sync : IsSync Global.the_row
@@ -69,28 +70,39 @@ slot_send T O s o = declared_send (SlotLane.the_type T O) (
 pub lane_send : (T O : RattleType) (g : port.Ghosts T.Denot) → IsSend T → IsSend O → IsSend (Lane.the_row T O g)
 lane_send T O g s o = variants_send (Lane.enum T O g) ((slot_send T O s o, tt), ((staff_send T g s, tt), tt))
 
--- what a closure captures: a `&` to each of three
-pub captures_sync : (ν : Sym) (A B C : RattleType) (ℓ ℓ' ℓ'' : NamedLft) → IsSync A → IsSync B → IsSync C →
-    IsSync (TupleAt ν (ShrRef ℓ.mir ℓ.lft A ∷ ShrRef ℓ'.mir ℓ'.lft B ∷ ShrRef ℓ''.mir ℓ''.lft C ∷ []))
-captures_sync ν A B C ℓ ℓ' ℓ'' a b c = declared_sync (type_at ν (ShrRef ℓ.mir ℓ.lft A ∷ ShrRef ℓ'.mir ℓ'.lft B ∷ ShrRef ℓ''.mir ℓ''.lft C ∷ [])) (
-  as_row_sync (row_field (ShrRef ℓ.mir ℓ.lft A)) (shr_sync ℓ.mir ℓ.lft A a),
-  (
-    as_row_sync (row_field (ShrRef ℓ'.mir ℓ'.lft B)) (shr_sync ℓ'.mir ℓ'.lft B b),
-    (as_row_sync (row_field (ShrRef ℓ''.mir ℓ''.lft C)) (shr_sync ℓ''.mir ℓ''.lft C c), tt),
-  ),
-)
+-- what a closure captures: a `&` to each of four
+pub captures_sync : (ν : Sym) (A B C D : RattleType) (ℓ ℓ' ℓ'' ℓ''' : NamedLft) → IsSync A → IsSync B → IsSync C → IsSync D →
+    IsSync (TupleAt ν (ShrRef ℓ.mir ℓ.lft A ∷ ShrRef ℓ'.mir ℓ'.lft B ∷ ShrRef ℓ''.mir ℓ''.lft C ∷ ShrRef ℓ'''.mir ℓ'''.lft D ∷ []))
+captures_sync ν A B C D ℓ ℓ' ℓ'' ℓ''' a b c d =
+    declared_sync (type_at ν (ShrRef ℓ.mir ℓ.lft A ∷ ShrRef ℓ'.mir ℓ'.lft B ∷ ShrRef ℓ''.mir ℓ''.lft C ∷ ShrRef ℓ'''.mir ℓ'''.lft D ∷ [])) (
+      as_row_sync (row_field (ShrRef ℓ.mir ℓ.lft A)) (shr_sync ℓ.mir ℓ.lft A a),
+      (
+        as_row_sync (row_field (ShrRef ℓ'.mir ℓ'.lft B)) (shr_sync ℓ'.mir ℓ'.lft B b),
+        (
+          as_row_sync (row_field (ShrRef ℓ''.mir ℓ''.lft C)) (shr_sync ℓ''.mir ℓ''.lft C c),
+          (as_row_sync (row_field (ShrRef ℓ'''.mir ℓ'''.lft D)) (shr_sync ℓ'''.mir ℓ'''.lft D d), tt),
+        ),
+      ),
+    )
 
--- what a closure captures: a `&` to each of three, and a `&mut` slice
-pub slice_captures_send : (ν : Sym) (A B C D : RattleType) (ℓ ℓ' ℓ'' ℓ''' : NamedLft) → IsSync A → IsSync B → IsSync C → IsSend D →
-    IsSend (TupleAt ν (ShrRef ℓ.mir ℓ.lft A ∷ ShrRef ℓ'.mir ℓ'.lft B ∷ ShrRef ℓ''.mir ℓ''.lft C ∷ MutSlice ℓ'''.mir ℓ'''.lft D ∷ []))
-slice_captures_send ν A B C D ℓ ℓ' ℓ'' ℓ''' a b c d =
-    declared_send (type_at ν (ShrRef ℓ.mir ℓ.lft A ∷ ShrRef ℓ'.mir ℓ'.lft B ∷ ShrRef ℓ''.mir ℓ''.lft C ∷ MutSlice ℓ'''.mir ℓ'''.lft D ∷ [])) (
+-- what a closure captures: a `&` to each of four, and a `&mut` slice
+pub slice_captures_send : (ν : Sym) (A B C D E : RattleType) (ℓ ℓ' ℓ'' ℓ''' κ : NamedLft) → IsSync A → IsSync B → IsSync C → IsSync D →
+    IsSend E →
+    IsSend (TupleAt ν (ShrRef ℓ.mir ℓ.lft A ∷ ShrRef ℓ'.mir ℓ'.lft B ∷ ShrRef ℓ''.mir ℓ''.lft C
+    ∷ ShrRef ℓ'''.mir ℓ'''.lft D ∷ MutSlice κ.mir κ.lft E ∷ []))
+slice_captures_send ν A B C D E ℓ ℓ' ℓ'' ℓ''' κ a b c d e =
+    declared_send
+    (type_at ν (ShrRef ℓ.mir ℓ.lft A ∷ ShrRef ℓ'.mir ℓ'.lft B ∷ ShrRef ℓ''.mir ℓ''.lft C
+    ∷ ShrRef ℓ'''.mir ℓ'''.lft D ∷ MutSlice κ.mir κ.lft E ∷ [])) (
       as_row_send (row_field (ShrRef ℓ.mir ℓ.lft A)) (shr_send ℓ.mir ℓ.lft A a),
       (
         as_row_send (row_field (ShrRef ℓ'.mir ℓ'.lft B)) (shr_send ℓ'.mir ℓ'.lft B b),
         (
           as_row_send (row_field (ShrRef ℓ''.mir ℓ''.lft C)) (shr_send ℓ''.mir ℓ''.lft C c),
-          (as_row_send (row_field (MutSlice ℓ'''.mir ℓ'''.lft D)) (mut_slice_send ℓ'''.mir ℓ'''.lft D d), tt),
+          (
+            as_row_send (row_field (ShrRef ℓ'''.mir ℓ'''.lft D)) (shr_send ℓ'''.mir ℓ'''.lft D d),
+            (as_row_send (row_field (MutSlice κ.mir κ.lft E)) (mut_slice_send κ.mir κ.lft E e), tt),
+          ),
         ),
       ),
     )

@@ -9,7 +9,8 @@ use Rattle.fs_conn.specs.declared.end.End.{End}
 use Rattle.fs_doc.specs.Reading.{Configuration}
 use Rattle.fs_machine.specs.declared.entry.Entry.{Entry}
 use Rattle.fs_machine.specs.declared.answer.Answer.{Answer}
-use Rattle.fs_machine.specs.declared.refusal.Refusal.{Refusal}
+use Rattle.fs_machine.specs.declared.offer.Offer.{Offer}
+use Rattle.fs_machine.specs.declared.refusal.RouteRefusal.{RouteRefusal}
 use Rattle.fs_machine.specs.Runs.{View}
 use Rattle.fs_machine.specs.Turned.{configured}
 use Rattle.fs_top.specs.declared.lanes.Staff.{Staff}
@@ -24,7 +25,7 @@ entry_told : (may may' : ℕ → Type 0) (own : Option ℕ) → ((moment : ℕ) 
 entry_told may may' own more entry entered = ((more entry.moment entered.0.0, entered.0.1), entered.1)
 
 pub staff_told : {L : Type 0} (input : L → Input) (output : L → Output) (may may' : ℕ → Type 0)
-    (book : Book View Configuration Entry Entry Answer Refusal) (staff : Staff L) → ((moment : ℕ) → may moment → may' moment)
+    (book : Book View Configuration Offer Entry Answer RouteRefusal) (staff : Staff L) → ((moment : ℕ) → may moment → may' moment)
     → StaffStands input output may book staff → StaffStands input output may' book staff
 staff_told input output may may' book staff more stands = record {
   book_is = stands.book_is;
@@ -35,7 +36,7 @@ staff_told input output may may' book staff more stands = record {
 }
 
 pub slot_told : {L O : Type 0} (input : L → Input) (output : L → Output) (may may' : ℕ → Type 0)
-    (book : Book View Configuration Entry Entry Answer Refusal) (slot count : ℕ) (lane : SlotLane L O)
+    (book : Book View Configuration Offer Entry Answer RouteRefusal) (slot count : ℕ) (lane : SlotLane L O)
     → ((moment : ℕ) → may moment → may' moment) → SlotHolds input output may book slot count lane
     → SlotHolds input output may' book slot count lane
 slot_told input output may may' book slot count lane more holds = (

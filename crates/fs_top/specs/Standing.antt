@@ -7,7 +7,8 @@ use Rattle.fs_book.specs.Passes.{seen, mine, met, parts, opening_state, IsPassOf
 use Rattle.fs_doc.specs.Reading.{Configuration}
 use Rattle.fs_machine.specs.declared.entry.Entry.{Entry}
 use Rattle.fs_machine.specs.declared.answer.Answer.{Answer}
-use Rattle.fs_machine.specs.declared.refusal.Refusal.{Refusal}
+use Rattle.fs_machine.specs.declared.offer.Offer.{Offer}
+use Rattle.fs_machine.specs.declared.refusal.RouteRefusal.{RouteRefusal}
 use Rattle.fs_machine.specs.Runs.{View}
 use Rattle.fs_machine.specs.Turned.{configured}
 use Rattle.fs_top.specs.declared.conns.Conn.{Conn}
@@ -20,7 +21,7 @@ use Rattle.fs_top.specs.Lanes.{Keeps, Enters}
 
 -- its pass is of the book and has two parts, it keeps its connections, and it never halts the switch, nor tells what came of a dial
 pub record StaffStands {L : Type 0} (input : L → Input) (output : L → Output) (may : ℕ → Type 0)
-    (book : Book View Configuration Entry Entry Answer Refusal) (staff : StaffLane L) : Type 0 where
+    (book : Book View Configuration Offer Entry Answer RouteRefusal) (staff : StaffLane L) : Type 0 where
   pub book_is : IsPassOf configured book staff.pass
   pub parts_is : parts staff.pass ≡ 2
   pub keeps : Keeps input output (Enters may ⊥ None) (configured (opening_state book)) (seen staff.pass) (mine staff.pass ∷ met staff.pass)
@@ -29,7 +30,7 @@ pub record StaffStands {L : Type 0} (input : L → Input) (output : L → Output
 module _ {L O : Type 0} where
   -- The lane is that of a slot, its pass is of the book and has so many parts, it keeps its connections, never halts the switch, and tells
   -- what came of a dial of its slot alone.
-  abbrev pub SlotHolds : (L → Input) → (L → Output) → (ℕ → Type 0) → Book View Configuration Entry Entry Answer Refusal → ℕ → ℕ
+  abbrev pub SlotHolds : (L → Input) → (L → Output) → (ℕ → Type 0) → Book View Configuration Offer Entry Answer RouteRefusal → ℕ → ℕ
       → SlotLane L O → Type 0
   SlotHolds input output may book slot count lane =
       (lane.slot ≡ slot) × IsPassOf configured book lane.pass × (parts lane.pass ≡ count)
@@ -37,7 +38,7 @@ module _ {L O : Type 0} where
       lane.conns.items
 
   -- it stands so where nobody else has parts of its pass
-  abbrev pub SlotStands : (L → Input) → (L → Output) → (ℕ → Type 0) → Book View Configuration Entry Entry Answer Refusal → ℕ
+  abbrev pub SlotStands : (L → Input) → (L → Output) → (ℕ → Type 0) → Book View Configuration Offer Entry Answer RouteRefusal → ℕ
       → SlotLane L O → Type 0
   SlotStands input output may book slot lane = SlotHolds input output may book slot 2 lane
 
@@ -50,7 +51,7 @@ module _ {L O : Type 0} where
   DialsFailed faults from lane = HasRisen (vain_of lane.slot lane) from (faults lane.dialer)
 
   -- a lane of whichever kind
-  abbrev pub Stands : (L → Input) → (L → Output) → (ℕ → Type 0) → Book View Configuration Entry Entry Answer Refusal → Lane L O → Type 0
+  abbrev pub Stands : (L → Input) → (L → Output) → (ℕ → Type 0) → Book View Configuration Offer Entry Answer RouteRefusal → Lane L O → Type 0
   Stands input output may book (Slot lane) = SlotStands input output may book lane.slot lane
   Stands input output may book (Staff staff) = StaffStands input output may book staff
 

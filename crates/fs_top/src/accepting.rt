@@ -11,7 +11,7 @@ ghost use Rattle.fs_top.specs.Doors.{Rose, Halts};
 use crate::came::Came;
 use crate::ending::is_ending;
 use fs_book::{Book, Pass};
-use fs_machine::{Act, Entry, Machine};
+use fs_machine::{Act, Entry, Machine, Offer};
 use fs_ports::{Accept, Clock, Door, Link, Wakes};
 use std::sync::Wait;
 
@@ -65,7 +65,7 @@ fn halt<R: Wait, C: Clock>(rt: &R, book: &Book<Machine>, pass: &mut Pass<Machine
 {
     let moment = clock.now();
     let act = Act::Halt;
-    match book.submit(rt, pass, Entry { moment, act }) {
+    match book.submit(rt, pass, Offer::Entry(Entry { moment, act })) {
         Ok(receipt) => clock.wake(&receipt.answer.wakes),
         Err(_) => clock.nap(),
     }

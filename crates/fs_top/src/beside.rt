@@ -13,7 +13,7 @@ use crate::came::Came;
 use crate::lanes::{Lane, run_lanes};
 use fs_book::{Book, Pass};
 use fs_machine::Machine;
-use fs_ports::{Clock, Dialer, Door};
+use fs_ports::{Clock, Dialer, Door, Gates};
 use std::sync::Wait;
 use std::thread::{Threads, join_mut};
 
@@ -23,11 +23,13 @@ pub(crate) fn run_beside<
     D: Door + Send,
     O: Dialer<Link = D::Link>,
     C: Clock,
+    G: Gates<Gate: Send>,
 >(
     rt: &R,
     book: &Book<Machine>,
     came: &Came<D::Link>,
     clock: &C,
+    gates: &G,
     door: &mut D,
     pass: &mut Pass<Machine>,
     lanes: &mut [Lane<D::Link, O>],
@@ -55,7 +57,7 @@ pub(crate) fn run_beside<
                 × ((slots : ℕ) → ArePlaced slots lanes.entry.now → ArePlaced slots lanes.exit.now)
                 × ((from : ℕ) → HaveFailed O.dial_faults from lanes.entry.now
                 → HaveFailed O.dial_faults from lanes.exit.now) }
-        { run_lanes(rt, book, clock, lanes) },
+        { run_lanes(rt, book, clock, gates, lanes) },
         &mut || -> ()
             requires { IsPassOf configured book.now pass.now
                 × Keeps D.Link.input D.Link.output (Enters (C.tells clock.now) ⊥ None)
@@ -63,7 +65,8 @@ pub(crate) fn run_beside<
             ensures { IsPassOf configured book.entry.now pass.exit.now
                 × (parts pass.exit.now ≡ parts pass.entry.now)
                 × Keeps D.Link.input D.Link.output
-                (Enters (C.tells clock.entry.now) (Rose (D.door_faults door.entry.now) (D.door_faults door.exit.now)) None)
+                (Enters (C.tells clock.entry.now) (Rose (D.door_faults door.entry.now) (D.door_faults door.exit.now))
+                None)
                 (configured (opening_state book.entry.now)) (seen pass.exit.now)
                 (mine pass.exit.now ∷ met pass.exit.now) [] }
         { accept_all(rt, book, came, clock, door, pass) },

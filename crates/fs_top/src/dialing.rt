@@ -19,7 +19,7 @@ use fs_book::{Book, Pass};
 use fs_conn::End;
 use fs_machine::{Machine, Refusal};
 use fs_out::Target;
-use fs_ports::{Clock, Dialer, Link, Sleeper};
+use fs_ports::{Clock, Dialer, Gates, Link, Sleeper};
 use fs_session::{Actor, Talked, talk_once};
 use std::sync::Wait;
 use std::thread::{Threads, join_mut};
@@ -29,10 +29,11 @@ const LINKS: u16 = 16;
 
 /// Works the channels in the slot of a lane, with a clock of its own, until the switch has come to its end and the slot
 /// is empty, or the journal is full. Each controller that is to be dialed for one is dialed, and served.
-pub(crate) fn run_slot<R: Threads + Wait + Sync, L: Link, O: Dialer<Link = L>, C: Clock>(
+pub(crate) fn run_slot<R: Threads + Wait + Sync, L: Link, O: Dialer<Link = L>, C: Clock, G: Gates>(
     rt: &R,
     book: &Book<Machine>,
     clock: &C,
+    gates: &G,
     lane: &mut SlotLane<L, O>,
 )
     requires { SlotStands L.input L.output (C.tells clock.now) book.now lane.old.slot lane.old }
@@ -40,14 +41,15 @@ pub(crate) fn run_slot<R: Threads + Wait + Sync, L: Link, O: Dialer<Link = L>, C
     ensures failed { (from : ℕ) → DialsFailed O.dial_faults from lane.old → DialsFailed O.dial_faults from lane.new }
 {
     let clock = clock.of_sleeper(Sleeper::Slot(lane.slot));
-    work_slot(rt, book, &clock, lane);
+    work_slot(rt, book, &clock, gates, lane);
 }
 
 // Does so with this clock.
-fn work_slot<R: Threads + Wait + Sync, L: Link, O: Dialer<Link = L>, C: Clock>(
+fn work_slot<R: Threads + Wait + Sync, L: Link, O: Dialer<Link = L>, C: Clock, G: Gates>(
     rt: &R,
     book: &Book<Machine>,
     clock: &C,
+    gates: &G,
     lane: &mut SlotLane<L, O>,
 )
     requires stands { SlotStands L.input L.output (C.tells clock.now) book.now lane.old.slot lane.old }
@@ -55,18 +57,19 @@ fn work_slot<R: Threads + Wait + Sync, L: Link, O: Dialer<Link = L>, C: Clock>(
     ensures failed { (from : ℕ) → DialsFailed O.dial_faults from lane.old → DialsFailed O.dial_faults from lane.new }
 {
     'talks: for _ in rt.forever() {
-        match run_lane_turns(rt, book, clock, lane) {
-            Pause::Talk(target) => talk(rt, book, clock, &target, lane),
+        match run_lane_turns(rt, book, clock, gates, lane) {
+            Pause::Talk(target) => talk(rt, book, clock, gates, &target, lane),
             Pause::Over => return,
         }
     }
 }
 
 // Works the channels in the slot, until a controller is to be dialed for one, or there is nothing more to do.
-fn run_lane_turns<R: Wait, L: Link, O: Drop, C: Clock>(
+fn run_lane_turns<R: Wait, L: Link, O: Drop, C: Clock, G: Gates>(
     rt: &R,
     book: &Book<Machine>,
     clock: &C,
+    gates: &G,
     lane: &mut SlotLane<L, O>,
 ) -> Pause
     requires { SlotStands L.input L.output (C.tells clock.now) book.now lane.old.slot lane.old }
@@ -82,16 +85,18 @@ fn run_lane_turns<R: Wait, L: Link, O: Drop, C: Clock>(
         &mut lane.pass,
         actor,
         clock,
+        gates,
         &lane.conns,
     )
 }
 
 // Dials a controller for the channel in the slot, with a pass that is split off, and serves its connection, if one
 // comes of it.
-fn talk<R: Threads + Wait + Sync, L: Link, O: Dialer<Link = L>, C: Clock>(
+fn talk<R: Threads + Wait + Sync, L: Link, O: Dialer<Link = L>, C: Clock, G: Gates>(
     rt: &R,
     book: &Book<Machine>,
     clock: &C,
+    gates: &G,
     target: &Target,
     lane: &mut SlotLane<L, O>,
 )
@@ -104,7 +109,7 @@ fn talk<R: Threads + Wait + Sync, L: Link, O: Dialer<Link = L>, C: Clock>(
         return;
     }
     let mut theirs = book.split(&mut lane.pass, 1);
-    let conn = dial(rt, book, clock, target, lane, &mut theirs);
+    let conn = dial(rt, book, clock, gates, target, lane, &mut theirs);
     book.meet(&mut lane.pass, theirs);
     if let Some(conn) = conn {
         keep(&mut lane.conns, conn);
@@ -112,10 +117,11 @@ fn talk<R: Threads + Wait + Sync, L: Link, O: Dialer<Link = L>, C: Clock>(
 }
 
 // Dials a controller, and enters what came of it by another pass. The connection that came is served to its end.
-fn dial<R: Threads + Wait + Sync, L: Link, O: Dialer<Link = L>, C: Clock>(
+fn dial<R: Threads + Wait + Sync, L: Link, O: Dialer<Link = L>, C: Clock, G: Gates>(
     rt: &R,
     book: &Book<Machine>,
     clock: &C,
+    gates: &G,
     target: &Target,
     lane: &mut SlotLane<L, O>,
     theirs: &mut Pass<Machine>,
@@ -145,7 +151,7 @@ fn dial<R: Threads + Wait + Sync, L: Link, O: Dialer<Link = L>, C: Clock>(
     ) {
         Talked::Opened { conn, link, wakes } => {
             clock.wake(&wakes);
-            Some(serve_beside(rt, book, clock, lane, theirs, conn, link))
+            Some(serve_beside(rt, book, clock, gates, lane, theirs, conn, link))
         }
         Talked::Not(_, wakes) => {
             clock.wake(&wakes);
@@ -160,10 +166,11 @@ fn dial<R: Threads + Wait + Sync, L: Link, O: Dialer<Link = L>, C: Clock>(
 }
 
 // Serves a new connection to its end by another pass, beside the turns of the slot.
-fn serve_beside<R: Threads + Wait + Sync, L: Link, O: Drop, C: Clock>(
+fn serve_beside<R: Threads + Wait + Sync, L: Link, O: Drop, C: Clock, G: Gates>(
     rt: &R,
     book: &Book<Machine>,
     clock: &C,
+    gates: &G,
     lane: &mut SlotLane<L, O>,
     theirs: &mut Pass<Machine>,
     number: u32,
@@ -189,15 +196,18 @@ fn serve_beside<R: Threads + Wait + Sync, L: Link, O: Drop, C: Clock>(
     let talks = clock.of_sleeper(sleeper);
     let mut link = link;
     link.belong_to(sleeper);
-    let end = converse_beside(rt, book, clock, &talks, lane, theirs, number, &mut link);
+    let end = converse_beside(
+        rt, book, clock, gates, &talks, lane, theirs, number, &mut link,
+    );
     Conn { number, link, end }
 }
 
 // Converses by one pass and one clock, and works the slot by the others.
-fn converse_beside<R: Threads + Wait + Sync, L: Link, O: Drop, C: Clock>(
+fn converse_beside<R: Threads + Wait + Sync, L: Link, O: Drop, C: Clock, G: Gates>(
     rt: &R,
     book: &Book<Machine>,
     clock: &C,
+    gates: &G,
     talks: &C,
     lane: &mut SlotLane<L, O>,
     theirs: &mut Pass<Machine>,
@@ -231,10 +241,12 @@ fn converse_beside<R: Threads + Wait + Sync, L: Link, O: Drop, C: Clock>(
                 × IsJournal (configured (opening_state book.now)) (seen theirs.now)
                 × NoneNames names conn (seen theirs.now) }
             ensures { IsPassOf configured book.entry.now theirs.exit.now
-                × OwnsConn (configured (opening_state book.entry.now)) conn (seen theirs.exit.now) (mine theirs.exit.now)
+                × OwnsConn (configured (opening_state book.entry.now)) conn (seen theirs.exit.now)
+                (mine theirs.exit.now)
                 × (met theirs.exit.now ≡ met theirs.entry.now) × (parts theirs.exit.now ≡ parts theirs.entry.now)
                 × Talks (C.tells talks.entry.now) (configured (opening_state book.entry.now)) conn
-                (point (seen theirs.entry.now) (mine theirs.entry.now) (L.input link.entry.now) (L.output link.entry.now))
+                (point (seen theirs.entry.now) (mine theirs.entry.now) (L.input link.entry.now)
+                (L.output link.entry.now))
                 (point (seen theirs.exit.now) (mine theirs.exit.now) (L.input link.exit.now) (L.output link.exit.now))
                 result }
         { serve_conn(rt, alloc, book, theirs, conn, link, talks) },
@@ -245,12 +257,12 @@ fn converse_beside<R: Threads + Wait + Sync, L: Link, O: Drop, C: Clock>(
             ensures { IsPassOf configured book.entry.now pass.exit.now
                 × (parts pass.exit.now ≡ parts pass.entry.now)
                 × Keeps L.input L.output (Enters (C.tells clock.entry.now) ⊥ (slot_of actor))
-                (configured (opening_state book.entry.now)) (seen pass.exit.now) (mine pass.exit.now ∷ met pass.exit.now)
-                conns.entry.now.items
+                (configured (opening_state book.entry.now)) (seen pass.exit.now)
+                (mine pass.exit.now ∷ met pass.exit.now) conns.entry.now.items
                 × ((slot : ℕ) → vain_in slot (seen pass.exit.now) (mine pass.exit.now ∷ met pass.exit.now)
                 ≡ vain_in slot (seen pass.entry.now) (mine pass.entry.now ∷ met pass.entry.now)) }
         {
-            run_turns(rt, alloc, book, pass, actor, clock, conns);
+            run_turns(rt, alloc, book, pass, actor, clock, gates, conns);
         },
     );
     end

@@ -12,7 +12,7 @@ use crate::slots::SlotLane;
 use crate::turning::run_turns;
 use fs_book::{Book, Pass};
 use fs_machine::Machine;
-use fs_ports::{Clock, Dialer, Link, Sleeper};
+use fs_ports::{Clock, Dialer, Gates, Link, NoGates, Sleeper};
 use fs_session::Actor;
 use fs_text::Memory;
 use std::alloc::Global;
@@ -92,6 +92,7 @@ fn work<R: Wait, L: Link, C: Clock>(
                 pass,
                 Actor::Jobs,
                 clock,
+                &NoGates,
                 &staff.conns,
             );
         }
@@ -120,10 +121,11 @@ fn sleeper_of(kind: StaffKind) -> Sleeper {
 }
 
 // Runs one lane.
-fn run_lane<R: Threads + Wait + Sync, L: Link, O: Dialer<Link = L>, C: Clock>(
+fn run_lane<R: Threads + Wait + Sync, L: Link, O: Dialer<Link = L>, C: Clock, G: Gates>(
     rt: &R,
     book: &Book<Machine>,
     clock: &C,
+    gates: &G,
     lane: &mut Lane<L, O>,
 )
     requires { Stands L.input L.output (C.tells clock.now) book.now lane.old }
@@ -132,18 +134,19 @@ fn run_lane<R: Threads + Wait + Sync, L: Link, O: Dialer<Link = L>, C: Clock>(
     ensures failed { (from : ℕ) → HasFailed O.dial_faults from lane.old → HasFailed O.dial_faults from lane.new }
 {
     match lane {
-        Lane::Slot(lane) => run_slot(rt, book, clock, lane),
+        Lane::Slot(lane) => run_slot(rt, book, clock, gates, lane),
         Lane::Staff(staff) => run_staff(rt, book, clock, staff),
     }
 }
 
 /// Runs all lanes beside one another, each in a thread of its own.
-pub(crate) fn run_lanes<R: Threads + Wait + Sync, L: Link, O: Dialer<Link = L>, C: Clock>(
-    rt: &R,
-    book: &Book<Machine>,
-    clock: &C,
-    lanes: &mut [Lane<L, O>],
-)
+pub(crate) fn run_lanes<
+    R: Threads + Wait + Sync,
+    L: Link,
+    O: Dialer<Link = L>,
+    C: Clock,
+    G: Gates<Gate: Send>,
+>(rt: &R, book: &Book<Machine>, clock: &C, gates: &G, lanes: &mut [Lane<L, O>])
     requires { All (Stands L.input L.output (C.tells clock.now) book.now) lanes.old }
     ensures stand { All (Stands L.input L.output (C.tells clock.now) book.now) lanes.new }
     ensures count { length lanes.new ≡ length lanes.old }
@@ -164,6 +167,6 @@ pub(crate) fn run_lanes<R: Threads + Wait + Sync, L: Link, O: Dialer<Link = L>, 
                 × ((slots at : ℕ) → IsPlaced slots at lane.entry.now → IsPlaced slots at lane.exit.now)
                 × ((from : ℕ) → HasFailed O.dial_faults from lane.entry.now
                 → HasFailed O.dial_faults from lane.exit.now) }
-        { run_lane(rt, book, clock, lane) },
+        { run_lane(rt, book, clock, gates, lane) },
     );
 }

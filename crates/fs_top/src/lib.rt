@@ -24,4 +24,4 @@ mod turning;
 
 pub use conns::Conn;
 pub use program::{Status, run};
-pub use serving::{Served, is_serve, serve};
+pub use serving::{Served, is_serve, serve, serve_with};

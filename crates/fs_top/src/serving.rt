@@ -32,7 +32,7 @@ use fs_conn::End;
 use fs_doc::{Config, read_config};
 use fs_machine::{Act, Entry, Journal, Machine, Refusal};
 use fs_plan::Dialplan;
-use fs_ports::{Clock, Dialer, Door, Files, Link, Listen, Load, Sink};
+use fs_ports::{Clock, Dialer, Door, Files, Gates, Link, Listen, Load, NoGates, Sink};
 use fs_text::{Memory, Txt};
 use std::alloc::Global;
 use std::sync::{Arc, Wait};
@@ -135,8 +135,8 @@ pub fn serve<
         (MayEnter (C.tells clock.now) (Rose (D.door_faults door.old) (D.door_faults door.new)))
         c result.journal.entries result.conns.items) }
 
-    // Of each slot, from 1 on, at most as many entries tell that a dial was in vain as its dialer counts faults more than
-    // the one from which all were made, unless it counts as many as it can.
+    // Of each slot, from 1 on, at most as many entries tell that a dial was in vain as its dialer counts faults more
+    // than the one from which all were made, unless it counts as many as it can.
     ensures dialers { AreBounded (λ slot. vain_dials slot result.journal.entries) (O.dial_faults dialer.now)
         (map O.dial_faults result.dialers.items) }
 
@@ -154,8 +154,73 @@ pub fn serve<
         × (is_full (state_after c result.journal.entries) ≡ true) }
     ensures codes { spec.IsStatus result.status.code }
 
-    // Where the file is told to be read as a configuration whose patterns have readings, and no count of files or of the
-    // door rose, the server was shut down, its journal is full, or memory was wanting.
+    // Where the file is told to be read as a configuration whose patterns have readings, and no count of files or of
+    // the door rose, the server was shut down, its journal is full, or memory was wanting.
+    ensures complete { (c : Configuration)
+        → spec.IsServable (F.next_load files.old) (spec.file_served words.now) c
+        → spec.NoneFailed (F.sizes files.old) (F.sizes files.new) (D.door_faults door.old) (D.door_faults door.new)
+        → spec.IsGoodStatus result.status.code }
+
+    // The line of what it came to was printed on `err`, or a front of it.
+    ensures said { spec.Says (E.output err.old) (E.output err.new) result.status.code }
+{
+    serve_with(rt, alloc, words, files, door, dialer, clock, err, &NoGates)
+}
+
+/// Does what [`serve`] does, where the hunts for the channel in a slot pass that slot's gate.
+pub fn serve_with<
+    R: Threads + Wait + Sync,
+    F: Files,
+    D: Door + Send,
+    O: Dialer<Link = D::Link>,
+    C: Clock,
+    E: Sink,
+    G: Gates<Gate: Send>,
+>(
+    rt: &R,
+    alloc: Global,
+    words: &[Txt],
+    files: &mut F,
+    door: &mut D,
+    dialer: &O,
+    clock: &C,
+    err: &mut E,
+    gates: &G,
+) -> Served<D::Link, O>
+    requires { spec.is_serve words.now ≡ true }
+
+    // Either nothing was entered; or the file is read as a configuration, and the journal is a run of it from the empty
+    // switch, each connection that came in it was served once, and is told over it: its commands stand in it once, in
+    // the order read, and the bytes written to it are a front of its frames. Each moment is one that the clock may
+    // tell, and the door failed where an entry halts the switch.
+    ensures headline { ((result.journal.entries ≡ []) × (result.conns.items ≡ [])) ⊎ ((c : Configuration)
+        × spec.IsReadAs (F.next_load files.old) (spec.file_served words.now) c
+        × (result.status.code ≡ status_behind c result.journal.entries)
+        × Headline D.Link.input D.Link.output
+        (MayEnter (C.tells clock.now) (Rose (D.door_faults door.old) (D.door_faults door.new)))
+        c result.journal.entries result.conns.items) }
+
+    // Of each slot, from 1 on, at most as many entries tell that a dial was in vain as its dialer counts faults more
+    // than the one from which all were made, unless it counts as many as it can.
+    ensures dialers { AreBounded (λ slot. vain_dials slot result.journal.entries) (O.dial_faults dialer.now)
+        (map O.dial_faults result.dialers.items) }
+
+    // Each status has its cause.
+    ensures shutdown { result.status.code ≡ 0 → (c : Configuration)
+        × spec.IsReadAs (F.next_load files.old) (spec.file_served words.now) c
+        × IsShutDown c result.journal.entries }
+    ensures document { result.status.code ≡ 3 → spec.IsNoDocument (F.next_load files.old) (spec.file_served words.now)
+        (F.sizes files.old) (F.sizes files.new) }
+    ensures unreadable { result.status.code ≡ 4 → spec.IsUnread (F.next_load files.old) (spec.file_served words.now)
+        (F.counts files.old) (F.counts files.new) }
+    ensures door { result.status.code ≡ 7 → Rose (D.door_faults door.old) (D.door_faults door.new) }
+    ensures full { result.status.code ≡ 8 → (c : Configuration)
+        × spec.IsReadAs (F.next_load files.old) (spec.file_served words.now) c
+        × (is_full (state_after c result.journal.entries) ≡ true) }
+    ensures codes { spec.IsStatus result.status.code }
+
+    // Where the file is told to be read as a configuration whose patterns have readings, and no count of files or of
+    // the door rose, the server was shut down, its journal is full, or memory was wanting.
     ensures complete { (c : Configuration)
         → spec.IsServable (F.next_load files.old) (spec.file_served words.now) c
         → spec.NoneFailed (F.sizes files.old) (F.sizes files.new) (D.door_faults door.old) (D.door_faults door.new)
@@ -165,7 +230,7 @@ pub fn serve<
     ensures said { spec.Says (E.output err.old) (E.output err.new) result.status.code }
 {
     let name = file_of(words);
-    let ran = serve_file(rt, alloc, name, files, door, dialer, clock);
+    let ran = serve_file(rt, alloc, name, files, door, dialer, clock, gates);
     let _sent = ran.course.say(err);
     let Ran {
         course,
@@ -201,6 +266,7 @@ fn serve_file<
     D: Door + Send,
     O: Dialer<Link = D::Link>,
     C: Clock,
+    G: Gates<Gate: Send>,
 >(
     rt: &R,
     alloc: Global,
@@ -209,6 +275,7 @@ fn serve_file<
     door: &mut D,
     dialer: &O,
     clock: &C,
+    gates: &G,
 ) -> Ran<'a, D::Link, O>
     ensures serves { spec.Serves D.Link.input D.Link.output (C.tells clock.now) (F.next_load files.old) name.now
         (F.counts files.old) (F.counts files.new) (F.sizes files.old) (F.sizes files.new)
@@ -222,7 +289,16 @@ fn serve_file<
         Ok(Load::Failed) => return Ran::nothing(alloc, Course::Run(Outcome::CannotRead { name })),
         Err(Memory) => return Ran::without_memory(alloc),
     };
-    serve_bytes(rt, alloc, bytes.as_bytes(), files, door, dialer, clock)
+    serve_bytes(
+        rt,
+        alloc,
+        bytes.as_bytes(),
+        files,
+        door,
+        dialer,
+        clock,
+        gates,
+    )
 }
 
 // Serves the document in these bytes.
@@ -233,6 +309,7 @@ fn serve_bytes<
     D: Door + Send,
     O: Dialer<Link = D::Link>,
     C: Clock,
+    G: Gates<Gate: Send>,
 >(
     rt: &R,
     alloc: Global,
@@ -241,6 +318,7 @@ fn serve_bytes<
     door: &mut D,
     dialer: &O,
     clock: &C,
+    gates: &G,
 ) -> Ran<'a, D::Link, O>
     ensures serves { spec.ServesBytes D.Link.input D.Link.output (C.tells clock.now) bytes.now
         (F.sizes files.old) (F.sizes files.new) (D.door_faults door.old) (D.door_faults door.new)
@@ -250,7 +328,7 @@ fn serve_bytes<
 {
     match read_config(alloc, bytes) {
         Ok(config) => match Dialplan::build(alloc, &config, files) {
-            Ok(plan) => serve_config(rt, alloc, config, plan, door, dialer, clock),
+            Ok(plan) => serve_config(rt, alloc, config, plan, door, dialer, clock, gates),
             Err(fault) => Ran::nothing(alloc, Course::Run(not_built(fault))),
         },
         Err(fault) => Ran::nothing(alloc, Course::Run(not_read(fault))),
@@ -258,7 +336,14 @@ fn serve_bytes<
 }
 
 // Listens where a configuration says, and serves it.
-fn serve_config<'a, R: Threads + Wait + Sync, D: Door + Send, O: Dialer<Link = D::Link>, C: Clock>(
+fn serve_config<
+    'a,
+    R: Threads + Wait + Sync,
+    D: Door + Send,
+    O: Dialer<Link = D::Link>,
+    C: Clock,
+    G: Gates<Gate: Send>,
+>(
     rt: &R,
     alloc: Global,
     config: Config,
@@ -266,6 +351,7 @@ fn serve_config<'a, R: Threads + Wait + Sync, D: Door + Send, O: Dialer<Link = D
     door: &mut D,
     dialer: &O,
     clock: &C,
+    gates: &G,
 ) -> Ran<'a, D::Link, O>
     requires { plan ≡ config.contexts }
     ensures serves { spec.ServesConfig D.Link.input D.Link.output (C.tells clock.now) config
@@ -281,13 +367,20 @@ fn serve_config<'a, R: Threads + Wait + Sync, D: Door + Send, O: Dialer<Link = D
         Listen::Failed => return Ran::nothing(alloc, Course::DoorFault),
     }
     match Machine::new(alloc, config, plan) {
-        Ok(machine) => serve_machine(rt, alloc, machine, slots, links, door, dialer, clock),
+        Ok(machine) => serve_machine(rt, alloc, machine, slots, links, door, dialer, clock, gates),
         Err(Memory) => Ran::without_memory(alloc),
     }
 }
 
 // Serves a switch to which nothing has happened.
-fn serve_machine<'a, R: Threads + Wait + Sync, D: Door + Send, O: Dialer<Link = D::Link>, C: Clock>(
+fn serve_machine<
+    'a,
+    R: Threads + Wait + Sync,
+    D: Door + Send,
+    O: Dialer<Link = D::Link>,
+    C: Clock,
+    G: Gates<Gate: Send>,
+>(
     rt: &R,
     alloc: Global,
     machine: Machine,
@@ -296,6 +389,7 @@ fn serve_machine<'a, R: Threads + Wait + Sync, D: Door + Send, O: Dialer<Link = 
     door: &mut D,
     dialer: &O,
     clock: &C,
+    gates: &G,
 ) -> Ran<'a, D::Link, O>
     requires { machine.journal ≡ [] }
     ensures serves { spec.ServesConfig D.Link.input D.Link.output (C.tells clock.now) machine.config
@@ -307,14 +401,22 @@ fn serve_machine<'a, R: Threads + Wait + Sync, D: Door + Send, O: Dialer<Link = 
     let Ok((book, pass)) = Book::start(alloc, machine) else {
         return Ran::without_memory(alloc);
     };
-    match serve_book(rt, alloc, book, pass, slots, links, door, dialer, clock) {
+    match serve_book(
+        rt, alloc, book, pass, slots, links, door, dialer, clock, gates,
+    ) {
         Ok((machine, gathered)) => conclude(machine, gathered),
         Err(Memory) => Ran::without_memory(alloc),
     }
 }
 
 // Serves over a book to which nothing has happened, and closes it.
-fn serve_book<R: Threads + Wait + Sync, D: Door + Send, O: Dialer<Link = D::Link>, C: Clock>(
+fn serve_book<
+    R: Threads + Wait + Sync,
+    D: Door + Send,
+    O: Dialer<Link = D::Link>,
+    C: Clock,
+    G: Gates<Gate: Send>,
+>(
     rt: &R,
     alloc: Global,
     book: Book<Machine>,
@@ -324,6 +426,7 @@ fn serve_book<R: Threads + Wait + Sync, D: Door + Send, O: Dialer<Link = D::Link
     door: &mut D,
     dialer: &O,
     clock: &C,
+    gates: &G,
 ) -> Result<(Machine, Gathered<D::Link, O>), Memory>
     requires book { IsPassOf configured book pass }
     requires first { IsFirstPass pass }
@@ -336,15 +439,21 @@ fn serve_book<R: Threads + Wait + Sync, D: Door + Send, O: Dialer<Link = D::Link
 {
     let mut pass = pass;
     let gathered = serve_to_end(
-        rt, alloc, &book, &mut pass, slots, links, door, dialer, clock,
+        rt, alloc, &book, &mut pass, slots, links, door, dialer, clock, gates,
     )?;
     let machine = close(book, pass, clock, &gathered.conns);
     Ok((machine, gathered))
 }
 
-// Serves over a book to which nothing has happened, until the switch is settled, and gives the connections that came and
-// the dialers.
-fn serve_to_end<R: Threads + Wait + Sync, D: Door + Send, O: Dialer<Link = D::Link>, C: Clock>(
+// Serves over a book to which nothing has happened, until the switch is settled, and gives the connections that came
+// and the dialers.
+fn serve_to_end<
+    R: Threads + Wait + Sync,
+    D: Door + Send,
+    O: Dialer<Link = D::Link>,
+    C: Clock,
+    G: Gates<Gate: Send>,
+>(
     rt: &R,
     alloc: Global,
     book: &Book<Machine>,
@@ -354,6 +463,7 @@ fn serve_to_end<R: Threads + Wait + Sync, D: Door + Send, O: Dialer<Link = D::Li
     door: &mut D,
     dialer: &O,
     clock: &C,
+    gates: &G,
 ) -> Result<Gathered<D::Link, O>, Memory>
     requires book { IsPassOf configured book.now pass.old }
     requires first { IsFirstPass pass.old }
@@ -380,7 +490,16 @@ fn serve_to_end<R: Threads + Wait + Sync, D: Door + Send, O: Dialer<Link = D::Li
         kinds_for(alloc, links)?,
         &mut lanes,
     )?;
-    run_beside(rt, book, &came, clock, door, pass, lanes.as_mut_slice());
+    run_beside(
+        rt,
+        book,
+        &came,
+        clock,
+        gates,
+        door,
+        pass,
+        lanes.as_mut_slice(),
+    );
     let gathered = gather(alloc, book, pass, clock, slots, lanes)?;
     settle(rt, book, pass, clock);
     Ok(gathered)

@@ -10,7 +10,7 @@ use crate::conns::Conn;
 use fs_book::{Book, Pass};
 use fs_machine::{Machine, Refusal};
 use fs_out::Target;
-use fs_ports::{Clock, Link};
+use fs_ports::{Clock, Gates, Link};
 use fs_session::{Actor, Worked, work_once};
 use std::alloc::Global;
 use std::sync::Wait;
@@ -25,13 +25,14 @@ pub(crate) enum Pause {
 }
 
 /// Works a slot, or the jobs, again and again, until there is a reason not to go on.
-pub(crate) fn run_turns<R: Wait, C: Clock, L: Link>(
+pub(crate) fn run_turns<R: Wait, C: Clock, G: Gates, L: Link>(
     rt: &R,
     alloc: Global,
     book: &Book<Machine>,
     pass: &mut Pass<Machine>,
     actor: Actor,
     clock: &C,
+    gates: &G,
     conns: &Vec<Conn<L>>,
 ) -> Pause
     requires book { IsPassOf configured book.now pass.old }
@@ -44,13 +45,22 @@ pub(crate) fn run_turns<R: Wait, C: Clock, L: Link>(
     ensures vain { (slot : ℕ) → vain_in slot (seen pass.new) (mine pass.new ∷ met pass.new)
         ≡ vain_in slot (seen pass.old) (mine pass.old ∷ met pass.old) }
 {
+    let mut gate = gates.gate(gated_slot(actor));
     'turns: for _ in rt.forever() {
-        let worked = work_once(rt, alloc, book, pass, actor, clock.now());
+        let worked = work_once(rt, alloc, book, pass, actor, clock.now(), &mut gate);
         if let Some(pause) = follow(worked, clock) {
             return pause;
         }
     }
     unreachable!()
+}
+
+// The slot whose hunts pass a gate; there are none for the jobs.
+fn gated_slot(actor: Actor) -> u16 {
+    match actor {
+        Actor::Slot(slot) => slot,
+        Actor::Jobs => 0,
+    }
 }
 
 // Wakes whoever has something to do behind a turn, or naps, unless it is the last one.

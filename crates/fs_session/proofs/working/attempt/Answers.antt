@@ -1,5 +1,5 @@
 use Rattle.std.proofs.Common.{sym, ◌∙◌}
-use Rattle.fs_session.proofs.WorkLemmas.{final_refused}
+use Rattle.fs_session.proofs.WorkLemmas.{fails_for}
 use Rattle.fs_session.proofs.working.attempt.Goals as goal
 
 pub returns-in-Ok-clause-tries : goal.returns-in-Ok-clause-tries
@@ -13,11 +13,11 @@ returns-in-Ok-clause-tries g c =
       at = ok.3;
       more = ok.4;
       reply = c.in-Ok.receipt.answer.reply;
-      answers = ok.5.answers;
+      answers = ok.5.tells.answers;
     }
 
-pub returns-in-Err-clause-tries : goal.returns-in-Err-clause-tries
-returns-in-Err-clause-tries g c = record {
-  stays = record { front = c.in-Err.ensures.later; same = c.in-Err.ensures.err.0; run = c.in-Err.ensures.err.1.before };
-  cause = final_refused _ _ c.in-Err.refusal c.in-Err.ensures.err.1.cause (sym c.is_final.ensures ∙ c.if-is_final.true);
-}
+pub returns-in-Err-Step-clause-tries : goal.returns-in-Err-Step-clause-tries
+returns-in-Err-Step-clause-tries g c =
+    let err = rw c.in-Err-Step.field-0-is at c.in-Err-Step.ensures.err in
+    fails_for _ _ _ _ _ _ c.in-Err-Step.refusal c.in-Err-Step.ensures.later err.0 err.1
+    (sym c.is_final.ensures ∙ c.if-is_final.true)

@@ -9,7 +9,9 @@ pub for_each_mut-requires-send-T : goal.for_each_mut-requires-send-T
 for_each_mut-requires-send-T g c κs o = param_send _ _ (arg_send _ no _ (lane_send _ _ g.L.Port c.type_bounds.send-L c.type_bounds.send-O))
 
 pub for_each_mut-requires-sync-F : goal.for_each_mut-requires-sync-F
-for_each_mut-requires-sync-F g c κs o = param_sync _ _ (arg_sync _ no _ (captures_sync _ _ _ _ _ _ _ c.type_bounds.sync-R book_sync c.type_bounds.sync-C))
+for_each_mut-requires-sync-F g c κs o =
+    param_sync _ _
+    (arg_sync _ no _ (captures_sync _ _ _ _ _ _ _ _ _ c.type_bounds.sync-R book_sync c.type_bounds.sync-C c.type_bounds.sync-G))
 
 pub returns-clause-placed : goal.returns-clause-placed
 returns-clause-placed g c = λ slots before at lane inside.

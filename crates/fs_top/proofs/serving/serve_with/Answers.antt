@@ -1,7 +1,7 @@
 use Rattle.std.proofs.Common.{sym, ◌∙◌}
 use Rattle.fs_top.proofs.CompleteLaws.{serves_well}
 use Rattle.fs_top.proofs.ServeLaws.{serves_headline, serves_shut, serves_document, serves_unread_file, serves_door, serves_full, serves_codes}
-use Rattle.fs_top.proofs.serving.serve.Goals as goal
+use Rattle.fs_top.proofs.serving.serve_with.Goals as goal
 
 pub returns-clause-headline : goal.returns-clause-headline
 returns-clause-headline g c = rw c.status-code.ensures (rw c.file_of-name.ensures at (serves_headline _ _ _ _ _ _ _ _ _ _ _ _ _ _ c.serve_file-ran.ensures.serves))

@@ -1,5 +1,7 @@
 //! What happens in entries in which a bridge begins or ends, or a channel is hung up.
 
+ghost use Rattle.std.specs.Prelude.{◌≡◌};
+
 use crate::played::machine_of;
 use case_desk::{Answer, Table};
 use fs_machine::{Entry, Machine, Reply};
@@ -17,11 +19,9 @@ pub(crate) fn tell_journal(table: &Table, entries: &[Entry], answer: &mut Answer
 }
 
 /// Makes an entry, and adds what happens in it, or why it is refused.
-pub(crate) fn tell_entry(
-    machine: &mut Machine,
-    entry: &Entry,
-    answer: &mut Answer,
-) -> Option<Reply> {
+pub(crate) fn tell_entry(machine: &mut Machine, entry: &Entry, answer: &mut Answer) -> Option<Reply>
+    ensures { machine.new.config ≡ machine.old.config }
+{
     match machine.prepare(entry) {
         Ok(change) => {
             tell_events(change.delta.moment, change.delta.news.as_slice(), answer);

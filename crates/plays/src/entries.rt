@@ -1,18 +1,24 @@
 //! Entries that are made one after another, in whatever order connections, channels and jobs come.
 
+ghost use Rattle.std.specs.Prelude.{◌≡◌, IfOk, IfSome};
+ghost use Rattle.fs_machine.specs.Routes.{Suits};
+
 use crate::answers::tell_answers;
 use crate::bridging::tell_entry;
 use crate::hearing::tell_heard;
 use crate::played::machine_of;
 use case_desk::{Answer, Table, cut, number_of, slot_of};
-use fs_machine::{Act, Closing, Entry, Machine, Reply};
+use fs_machine::{Act, Closing, Entry, Machine, Plan, Reply, RouteRefusal};
+use fs_ports::NoGate;
 use fs_text::{Memory, Txt};
+use std::alloc::Global;
 
 /// Answers `entries STEPS`, with `;` between them: `arrive`, `say CONNECTION LINE`, `take CONNECTION`,
 /// `read CONNECTION`, `leave CONNECTION` by the end of its input, `close CONNECTION` with all sent, `dialed SLOT` and
 /// `undialed SLOT` as there is a link to its controller or none, `job NUMBER`, `halt`, `hear CONNECTION COUNT`, by
-/// which so many frames are taken, and `work SLOTS` with an entry for each slot. It tells what `bridging` tells,
-/// refusals, and the frames that are taken: those of `read` whole, those of `hear` in short.
+/// which so many frames are taken, `work SLOTS` with an entry for each slot, and `route SLOT CONNECTION LINE`, by which
+/// a slot is routed by a plan that was made before the line was said. It tells what `bridging` tells, refusals, and the
+/// frames that are taken: those of `read` whole, those of `hear` in short.
 pub(crate) fn tell_entries(table: &Table, steps: &str, answer: &mut Answer) {
     if let Some(mut machine) = machine_of(table, answer) {
         for step in steps.split(';') {
@@ -47,6 +53,7 @@ fn tell_step(machine: &mut Machine, step: &str, answer: &mut Answer) {
         "undialed" => tell_dialed(machine, rest, false, answer),
         "halt" => tell_act(machine, Act::Halt, answer),
         "work" => work(machine, rest, answer),
+        "route" => route(machine, rest, answer),
         "read" => read(machine, rest, answer),
         "hear" => hear(machine, rest, answer),
         _ => answer.line("no step"),
@@ -94,8 +101,40 @@ fn work(machine: &mut Machine, slots: &str, answer: &mut Answer) {
     }
 }
 
+// Plans the route of the channel in a slot, gives a command line of a connection, and then routes the slot by that
+// plan.
+fn route(machine: &mut Machine, rest: &str, answer: &mut Answer) {
+    let (slot, said) = cut(rest);
+    let slot = slot_of(slot);
+    let made = plan_of(machine, slot, answer.alloc());
+    let Some(Some(plan)) = answer.made(made) else {
+        answer.line("no plan");
+        return;
+    };
+    say(machine, said, answer);
+    match machine.apply_route(0, slot, plan) {
+        Ok(_) => answer.line("routed"),
+        Err(RouteRefusal::Again { touched }) => {
+            answer.told(format_args!("again, changed by {touched} entries"));
+        }
+        Err(RouteRefusal::Step(refusal)) => answer.shown(refusal),
+    }
+}
+
+// A plan for the route of the channel in a slot, if it is to be routed and no text is too long.
+fn plan_of(machine: &Machine, slot: u16, alloc: Global) -> Result<Option<Plan>, Memory>
+    ensures { IfOk result (λ plan. IfSome plan (Suits machine.now.config)) }
+{
+    match machine.snapshot(slot)? {
+        Some(seen) => seen.plan(alloc, &mut NoGate),
+        None => Ok(None),
+    }
+}
+
 // Gives a command line of a connection.
-fn say(machine: &mut Machine, rest: &str, answer: &mut Answer) {
+fn say(machine: &mut Machine, rest: &str, answer: &mut Answer)
+    ensures { machine.new.config ≡ machine.old.config }
+{
     let (conn, line) = cut(rest);
     let made = block_of(line, answer);
     if let Some(block) = answer.made(made) {
@@ -118,7 +157,9 @@ fn block_of(line: &str, answer: &mut Answer) -> Result<Txt, Memory> {
 }
 
 // Makes an entry, and adds what happens in it and what is handed out.
-fn tell_act(machine: &mut Machine, act: Act, answer: &mut Answer) {
+fn tell_act(machine: &mut Machine, act: Act, answer: &mut Answer)
+    ensures { machine.new.config ≡ machine.old.config }
+{
     let entry = Entry { moment: 0, act };
     if let Some(Reply::Frame(frame)) = tell_entry(machine, &entry, answer) {
         tell_answers(frame.as_bytes(), answer);

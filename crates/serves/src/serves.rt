@@ -5,9 +5,11 @@ ghost use Rattle.fs_ports.specs.Memory.{IsNewTape};
 
 use crate::telling::{How, tell_served};
 use case_desk::{Answer, Desk, Table, length_of, number_of};
-use fs_ports::{Flag, MemDialer, MemDoor, MemLink, MemLinks, Sent, Sink, StepClock, send_all};
+use fs_ports::{
+    Flag, HoldGates, MemDialer, MemDoor, MemLink, MemLinks, Sent, Sink, StepClock, send_all,
+};
 use fs_text::{Memory, Txt};
-use fs_top::{is_serve, serve};
+use fs_top::{is_serve, serve_with};
 use std::alloc::Global;
 use std::io::ErrorKind;
 use std::sync::Wait;
@@ -22,8 +24,9 @@ const TURNS: u64 = 1_000_000;
 // How far the clock goes on at a nap, in microseconds.
 const STEP: u64 = 1000;
 
-/// What the lines so far laid out: a document, the links that come, those that are dialed, and what fails at the door and
-/// at dialers; and how much is to be told of a server over them, where the last line asked for one.
+/// What the lines so far laid out: a document, the links that come, those that are dialed, what fails at the door and
+/// at dialers, and the gate of a slot; and how much is to be told of a server over them, where the last line asked for
+/// one.
 #[derive(Drop)]
 pub(crate) struct Serves {
     table: Table,
@@ -34,7 +37,16 @@ pub(crate) struct Serves {
     failed_dials: Vec<u64>,
     step: u64,
     is_deaf: bool,
+    gate: Option<NewGate>,
     asked: Option<How>,
+}
+
+// A gate for the hunts of a slot: the flag that it raises, and the one that it waits for.
+#[derive(Drop)]
+struct NewGate {
+    slot: u16,
+    reached: Flag,
+    flag: Flag,
 }
 
 // Links of which nothing was read or written yet.
@@ -77,6 +89,7 @@ impl Serves {
             failed_dials: Vec::new(alloc),
             step: STEP,
             is_deaf: false,
+            gate: None,
             asked: None,
         }
     }
@@ -111,6 +124,7 @@ impl Serves {
         self.failed_dials.clear();
         self.step = STEP;
         self.is_deaf = false;
+        self.gate = None;
     }
 
     // The flag of a name: `a` is the first one.
@@ -145,6 +159,33 @@ impl Serves {
     fn take_controller(&mut self, words: &str, alloc: Global) -> Result<(), Memory> {
         let link = self.new_link(words, alloc)?;
         self.controllers.push(link)
+    }
+
+    // Has the hunts of a slot held, by `SLOT REACHED FLAG`.
+    fn take_gate(&mut self, words: &str, alloc: Global) -> Result<(), Memory> {
+        let words = words.split_whitespace().collect::<Vec<&str>>(alloc)?;
+        if let [slot, reached, flag] = words.as_slice() {
+            self.gate = Some(NewGate {
+                slot: u16::try_from(number_of(slot)).unwrap_or(0),
+                reached: self.flag(reached, alloc)?,
+                flag: self.flag(flag, alloc)?,
+            });
+        }
+        Ok(())
+    }
+
+    // The gates of a server: without one that was laid out, that of slot 0, which has no channel.
+    fn gates(&mut self, alloc: Global) -> Result<HoldGates, Memory> {
+        match self.gate.take() {
+            Some(
+                NewGate {
+                    slot,
+                    reached,
+                    flag,
+                },
+            ) => HoldGates::new(alloc, slot, reached, flag, TURNS),
+            None => HoldGates::new(alloc, 0, Flag::new(alloc)?, Flag::new(alloc)?, 0),
+        }
     }
 
     // A link that `hold FROM FLAG` holds, in front of what it raises. Nobody raises the flag `never`.
@@ -200,9 +241,13 @@ impl Serves {
         let dialer = MemDialer::new(alloc, controllers, &self.failed_dials)?;
         let mut err = MemLink::new(alloc, &[], &[], &[], &[], ROOM)?;
         let clock = StepClock::new(0, self.step);
-        let served = serve(
-            rt, alloc, &words, &mut files, &mut door, &dialer, &clock, &mut err,
+        let gates = self.gates(alloc)?;
+        let served = serve_with(
+            rt, alloc, &words, &mut files, &mut door, &dialer, &clock, &mut err, &gates,
         );
+        if gates.used_up() {
+            answer.line("the hunt went on without its flag");
+        }
         answer.told(format_args!("status {}", served.status.code));
         answer.lines(err.written());
         tell_served(&served, self.table.file(), how, answer)
@@ -217,6 +262,10 @@ impl Serves {
             }
             "controller" => {
                 let done = self.take_controller(rest, answer.alloc());
+                answer.note(done);
+            }
+            "gate" => {
+                let done = self.take_gate(rest, answer.alloc());
                 answer.note(done);
             }
             "failed-dials" => answer.add_numbers(rest, &mut self.failed_dials),

@@ -1,7 +1,7 @@
 //! Seats, where each sleeper sleeps until somebody rings or bytes come.
 
 use crate::sleeper::Sleeper;
-use crate::wakes::{FREE, Wakes};
+use crate::wakes::{BITS, FREE, Wakes};
 use fs_text::Memory;
 use libc::net;
 use libc::types::pollfd;
@@ -189,19 +189,40 @@ impl Bells {
             ring_other(&self.jobs, own);
         }
         self.ring_slots(wakes, own);
+        if is_everybody || wakes.has_conns() {
+            self.ring_lanes(wakes, own);
+        }
+    }
+
+    // Where none of the slots of a word is named, they are passed over at once.
+    fn ring_slots(&self, wakes: &Wakes, own: &Seat) {
+        let mut first: u16 = 0;
+        for seats in self.slots.chunks(usize::from(BITS)) {
+            if wakes.is_everybody() || wakes.has_slot_beside(first) {
+                ring_from(first, seats, wakes, own);
+            }
+            first = first.saturating_add(BITS);
+        }
+    }
+
+    // At a seat where no connection is served sits whoever is free.
+    fn ring_lanes(&self, wakes: &Wakes, own: &Seat) {
         for seat in &self.lanes {
-            if is_everybody || seat.is_named_by(wakes) {
+            if wakes.is_everybody() || seat.is_named_by(wakes) {
                 ring_other(seat, own);
             }
         }
     }
+}
 
-    fn ring_slots(&self, wakes: &Wakes, own: &Seat) {
-        for (slot, seat) in self.slots.iter().enumerate() {
-            if wakes.is_everybody() || wakes.has_slot(u16::try_from(slot).unwrap_or(u16::MAX)) {
-                ring_other(seat, own);
-            }
+// Rings for those of these at the seats of slots, the first of which is this one.
+fn ring_from(first: u16, seats: &[Seat], wakes: &Wakes, own: &Seat) {
+    let mut slot = first;
+    for seat in seats {
+        if wakes.is_everybody() || wakes.has_slot(slot) {
+            ring_other(seat, own);
         }
+        slot = slot.saturating_add(1);
     }
 }
 

@@ -6,13 +6,12 @@ use fs_text::Memory;
 use std::alloc::Global;
 use std::thread;
 
-/// Gates of which the one for a slot holds its hunts up, until a flag is raised or it was asked so often. The others hold
-/// nothing up.
+/// Gates of which the one for a slot holds its hunts up: its first pass until a flag is raised, its next one until the
+/// next flag is, and so on, or until it was asked so often. Behind the last flag, and elsewhere, nothing is held up.
 #[derive(Drop)]
 pub struct HoldGates {
     slot: u16,
-    reached: Flag,
-    flag: Flag,
+    stages: Vec<Stage>,
     used_up: Flag,
     turns: u64,
 }
@@ -26,26 +25,35 @@ impl HoldGates {
         flag: Flag,
         turns: u64,
     ) -> Result<HoldGates, Memory> {
+        let used_up = Flag::new(alloc)?;
+        let mut stages = Vec::new(alloc);
+        stages.push(Stage { reached, flag })?;
         Ok(HoldGates {
             slot,
-            reached,
-            flag,
-            used_up: Flag::new(alloc)?,
+            stages,
+            used_up,
             turns,
         })
     }
 
-    /// Whether a hunt went on without the flag, because it had asked so often.
+    /// As it is passed the next time, it does the same with these.
+    pub fn add(&mut self, reached: Flag, flag: Flag) -> Result<(), Memory> {
+        self.stages.push(Stage { reached, flag })?;
+        Ok(())
+    }
+
+    /// Whether a hunt went on without a flag, because it had asked so often.
     pub fn used_up(&self) -> bool {
         self.used_up.is_up()
     }
 
     /// What holds the hunts of the slot up.
     fn held(&self) -> Result<Held, Memory> {
+        let used_up = self.used_up.twin()?;
         Ok(Held {
-            reached: self.reached.twin()?,
-            flag: self.flag.twin()?,
-            used_up: self.used_up.twin()?,
+            stages: twins_of(&self.stages, *self.stages.allocator())?,
+            next: 0,
+            used_up,
             turns: self.turns,
         })
     }
@@ -64,7 +72,7 @@ impl Gates for HoldGates {
     }
 }
 
-/// A gate that holds hunts up until a flag is raised, or holds nothing up.
+/// A gate that holds hunts up until flags are raised, or holds nothing up.
 #[derive(Drop)]
 pub struct HoldGate {
     held: Option<Held>,
@@ -81,24 +89,60 @@ impl Gate for HoldGate {
 /// What holds hunts up.
 #[derive(Drop)]
 struct Held {
-    reached: Flag,
-    flag: Flag,
+    stages: Vec<Stage>,
+    // The stage of the next pass.
+    next: usize,
     used_up: Flag,
     turns: u64,
 }
 
 impl Held {
     fn pass(&mut self) {
-        self.reached.raise();
-        for _turn in 0..self.turns {
-            if self.flag.is_up() {
-                return;
-            }
-            thread::yield_now();
-        }
-        if !self.flag.is_up() {
-            self.turns = 0;
+        let Some(stage) = self.stages.get(self.next) else {
+            return;
+        };
+        self.next = self.next.saturating_add(1);
+        if !stage.passes(self.turns) {
             self.used_up.raise();
         }
     }
+}
+
+/// A pass: the flag that it raises, and the one that it waits for.
+#[derive(Drop)]
+struct Stage {
+    reached: Flag,
+    flag: Flag,
+}
+
+impl Stage {
+    /// The same flags, for another thread.
+    fn twin(&self) -> Result<Stage, Memory> {
+        let reached = self.reached.twin()?;
+        Ok(Stage {
+            reached,
+            flag: self.flag.twin()?,
+        })
+    }
+
+    /// Raises its one flag, and waits for the other one. Says whether that was raised before it had asked so often.
+    fn passes(&self, turns: u64) -> bool {
+        self.reached.raise();
+        for _turn in 0..turns {
+            if self.flag.is_up() {
+                return true;
+            }
+            thread::yield_now();
+        }
+        self.flag.is_up()
+    }
+}
+
+/// The same stages, for another thread.
+fn twins_of(stages: &[Stage], alloc: Global) -> Result<Vec<Stage>, Memory> {
+    let mut twins = Vec::new(alloc);
+    for stage in stages {
+        twins.push(stage.twin()?)?;
+    }
+    Ok(twins)
 }

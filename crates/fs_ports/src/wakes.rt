@@ -1,7 +1,7 @@
 //! Who is to be woken.
 
-// So many slots have a bit in a word.
-const BITS: u16 = 64;
+/// So many slots have a bit in a word.
+pub(crate) const BITS: u16 = 64;
 
 // Bits for the slots 0 to 319.
 const WORDS: usize = 5;
@@ -91,6 +91,19 @@ impl Wakes {
             Some(word) => word & bit_of(slot) != 0,
             None => false,
         }
+    }
+
+    /// Whether whoever works a slot is to be woken that has its bit in one word with this one.
+    pub(crate) fn has_slot_beside(&self, slot: u16) -> bool {
+        match self.slots.get(usize::from(slot / BITS)) {
+            Some(word) => *word != 0,
+            None => false,
+        }
+    }
+
+    /// Whether whoever serves some connection is to be woken.
+    pub(crate) fn has_conns(&self) -> bool {
+        self.conn_count > 0
     }
 
     /// Whether whoever serves this connection is to be woken.

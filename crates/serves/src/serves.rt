@@ -37,16 +37,8 @@ pub(crate) struct Serves {
     failed_dials: Vec<u64>,
     step: u64,
     is_deaf: bool,
-    gate: Option<NewGate>,
+    gates: Option<HoldGates>,
     asked: Option<How>,
-}
-
-// A gate for the hunts of a slot: the flag that it raises, and the one that it waits for.
-#[derive(Drop)]
-struct NewGate {
-    slot: u16,
-    reached: Flag,
-    flag: Flag,
 }
 
 // Links of which nothing was read or written yet.
@@ -89,7 +81,7 @@ impl Serves {
             failed_dials: Vec::new(alloc),
             step: STEP,
             is_deaf: false,
-            gate: None,
+            gates: None,
             asked: None,
         }
     }
@@ -124,7 +116,7 @@ impl Serves {
         self.failed_dials.clear();
         self.step = STEP;
         self.is_deaf = false;
-        self.gate = None;
+        self.gates = None;
     }
 
     // The flag of a name: `a` is the first one.
@@ -161,29 +153,28 @@ impl Serves {
         self.controllers.push(link)
     }
 
-    // Has the hunts of a slot held, by `SLOT REACHED FLAG`.
+    // Has the hunts of a slot held, by `SLOT REACHED FLAG`; by a further one as they pass their gate the next time.
     fn take_gate(&mut self, words: &str, alloc: Global) -> Result<(), Memory> {
         let words = words.split_whitespace().collect::<Vec<&str>>(alloc)?;
-        if let [slot, reached, flag] = words.as_slice() {
-            self.gate = Some(NewGate {
-                slot: u16::try_from(number_of(slot)).unwrap_or(0),
-                reached: self.flag(reached, alloc)?,
-                flag: self.flag(flag, alloc)?,
-            });
+        let [slot, reached, flag] = words.as_slice() else {
+            return Ok(());
+        };
+        let slot = u16::try_from(number_of(slot)).unwrap_or(0);
+        let reached = self.flag(reached, alloc)?;
+        let flag = self.flag(flag, alloc)?;
+        match &mut self.gates {
+            Some(gates) => gates.add(reached, flag),
+            None => {
+                self.gates = Some(HoldGates::new(alloc, slot, reached, flag, TURNS)?);
+                Ok(())
+            }
         }
-        Ok(())
     }
 
     // The gates of a server: without one that was laid out, that of slot 0, which has no channel.
     fn gates(&mut self, alloc: Global) -> Result<HoldGates, Memory> {
-        match self.gate.take() {
-            Some(
-                NewGate {
-                    slot,
-                    reached,
-                    flag,
-                },
-            ) => HoldGates::new(alloc, slot, reached, flag, TURNS),
+        match self.gates.take() {
+            Some(gates) => Ok(gates),
             None => HoldGates::new(alloc, 0, Flag::new(alloc)?, Flag::new(alloc)?, 0),
         }
     }

@@ -1,2 +1,4 @@
 pub mod LineLemmas
 mod ReadLaws
+pub mod ReleaseLemmas
+pub mod RingLemmas

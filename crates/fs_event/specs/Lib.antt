@@ -1,3 +1,5 @@
 pub mod Headers
+pub mod Places
 pub mod Reading
+pub mod Rings
 pub mod Texts

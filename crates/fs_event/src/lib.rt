@@ -3,8 +3,11 @@
 
 mod event;
 mod laws;
+mod place;
+mod ring;
 mod texts;
 
 pub use event::Event;
-pub use laws::read_back;
+pub use laws::{read_back, released_law};
+pub use ring::Ring;
 pub use texts::{EventText, frame, plain};

@@ -33,12 +33,26 @@ impl Model for EventText {
 }
 
 impl EventText {
+    /// No text, and no room for one yet.
+    pub fn none(alloc: Global) -> EventText
+        ensures { result ≡ [] }
+    {
+        EventText {
+            bytes: Vec::new(alloc),
+        }
+    }
+
     /// No text, with room for one.
     pub fn new(alloc: Global) -> Result<EventText, Memory>
         ensures { IfOk result (λ text. text ≡ []) }
     {
         let bytes = Vec::with_capacity(alloc, TEXT_ROOM)?;
         Ok(EventText { bytes })
+    }
+
+    /// How many bytes there is room for, those of the text among them.
+    pub fn room(&self) -> usize {
+        self.bytes.capacity()
     }
 
     /// No text is left; the room is.

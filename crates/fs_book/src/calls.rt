@@ -33,6 +33,7 @@ impl<M: Turned> Book<M> {
         ensures err { IfErr result (λ r. (mine pass.new ≡ mine pass.old)
             × M.refuses (M.start (opening_state self.now)) (seen pass.new) entry r) }
     {
+        let _entered = self.entrance.lock(rt);
         let seat = &mut pass.seat;
         let mut state = self.enter(rt, seat);
         let place = state.place();
@@ -56,6 +57,7 @@ impl<M: Turned> Book<M> {
         ensures later { IsPrefix (seen pass.old) (seen pass.new) }
         ensures answer { Q.tells question.now (M.start (opening_state self.now)) (seen pass.new) result }
     {
+        let _entered = self.entrance.lock(rt);
         let seat = &mut pass.seat;
         let state = self.enter(rt, seat);
         let answer = question.ask(&state);

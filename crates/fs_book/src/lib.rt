@@ -1,7 +1,6 @@
 //! A state under a ticket lock, whose journal says in which order its callers came.
 #![tactic(auto)]
 
-mod bells;
 mod book;
 mod calls;
 mod meeting;

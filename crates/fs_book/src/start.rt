@@ -4,7 +4,6 @@ ghost use Rattle.fs_book.specs.Counts.{total, times, once_below};
 ghost use Rattle.fs_book.specs.Opened.{Owned};
 ghost use Rattle.fs_book.specs.Passes.{seen, mine, met, parts, opening_state, IsFirstPass, IsPassOf};
 
-use crate::bells::Bells;
 use crate::book::Book;
 use crate::pass::Pass;
 use crate::rule::Desk;
@@ -13,6 +12,7 @@ use atomic_table::{Refused, Table};
 use fs_text::Memory;
 use std::alloc::{AllocFailed, Global};
 use std::snapshot::Snapshot;
+use std::sync::Mutex;
 
 // How many parts all passes of a book have together.
 const ALL_PARTS: u64 = 1 << 62;
@@ -30,7 +30,7 @@ impl<M: Turned> Book<M> {
             Ok((desk, seat)) => Ok((
                 Book {
                     desk,
-                    bells: Bells::new(),
+                    entrance: Mutex::new(()),
                 },
                 Pass {
                     seat,
@@ -50,7 +50,7 @@ impl<M: Turned> Book<M> {
         ensures owned { Owned M.opens M.names (Some (M.start result)) (mine pass ∷ met pass) (M.journal result) }
         ensures lists { (p : ℕ) → total (times p) (mine pass ∷ met pass) ≡ once_below p (length (seen pass)) }
     {
-        let Book { desk, bells: _ } = self;
+        let Book { desk, entrance: _ } = self;
         let Pass { seat, parts: _ } = pass;
         let mut closed = desk.close_with(seat);
         let slot = closed.take(0);

@@ -5,11 +5,11 @@ ghost use Rattle.fs_book.specs.Opened.{NamesOwn};
 ghost use Rattle.fs_book.specs.Turns.{Sound};
 ghost use Rattle.fs_book.specs.Tenures.{IsIn};
 
-use crate::bells::Patience;
 use crate::book::Book;
 use crate::rule::{Add, BookSeat, Come, Draw, Leave};
 use crate::turned::Turned;
 use std::sync::Wait;
+use std::thread;
 
 // The words of the lock: the tickets drawn, and the ticket whose turn it is.
 pub const TICKETS: usize = 0;
@@ -17,7 +17,8 @@ pub const TICKETS: usize = 0;
 pub const TURN: usize = 1;
 
 impl<M: Turned> Book<M> {
-    // Draws a ticket, waits for its turn, and takes the state.
+    // Draws a ticket, waits for its turn, and takes the state. Whoever came by the entrance is alone here, so its turn
+    // has come already.
     pub(crate) fn enter(&self, rt: &impl Wait, seat: &mut BookSeat<M>) -> M
         requires own { seat.old.table_id ≡ self.now.desk.shared.table_id }
         requires rests { (seat.old.me.1 ≡ []) × (seat.old.me.0.stage ≡ Idle) × (0 < seat.old.me.0.parts) }
@@ -26,7 +27,6 @@ impl<M: Turned> Book<M> {
     {
         let shared = &self.desk.shared;
         let ticket = shared.fetch_add::<Draw>(seat, TICKETS, 1);
-        let mut patience = Patience::new();
         for _ in rt.forever() {
             let turn = shared.load::<Come>(seat, TURN);
             if turn == ticket {
@@ -35,7 +35,7 @@ impl<M: Turned> Book<M> {
                 };
                 return state;
             }
-            self.bells.wait(rt, &mut patience, ticket, turn);
+            thread::yield_now();
         }
         unreachable!()
     }
@@ -63,8 +63,7 @@ impl<M: Turned> Book<M> {
         ensures left { seat.new.me ≡ (record seat.old.me.0 { stage = Idle }, []) }
     {
         self.put_back(seat, state);
-        let turn = self.desk.shared.fetch_add::<Leave>(seat, TURN, 1);
-        self.bells.ring(turn.wrapping_add(1));
+        self.desk.shared.fetch_add::<Leave>(seat, TURN, 1);
     }
 
     // Gives the state back with one entry more, and passes the turn on.
@@ -88,7 +87,6 @@ impl<M: Turned> Book<M> {
         ) }
     {
         self.put_back(seat, state);
-        let turn = self.desk.shared.fetch_add::<Add>(seat, TURN, 1);
-        self.bells.ring(turn.wrapping_add(1));
+        self.desk.shared.fetch_add::<Add>(seat, TURN, 1);
     }
 }

@@ -2,8 +2,8 @@ use Rattle.std.proofs.Common.{rules, ◌<◌, sym, ap, ◌∙◌, subst}
 use Rattle.fs_book.proofs.Keeps.{leaves}
 use Rattle.fs_book.proofs.book.Book.leave.Goals as goal
 
-pub fetch_add-turn-requires : goal.fetch_add-turn-requires
-fetch_add-turn-requires g c =
+pub fetch_add-requires : goal.fetch_add-requires
+fetch_add-requires g c =
     let put = c.put_back.ensures.carries in (
       search rules,
       search rules,

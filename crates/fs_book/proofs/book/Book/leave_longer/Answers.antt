@@ -3,8 +3,8 @@ use Rattle.fs_book.specs.Opened.{NamesOwn}
 use Rattle.fs_book.proofs.Keeps.{adds}
 use Rattle.fs_book.proofs.book.Book.leave_longer.Goals as goal
 
-pub fetch_add-turn-requires : goal.fetch_add-turn-requires
-fetch_add-turn-requires g c =
+pub fetch_add-requires : goal.fetch_add-requires
+fetch_add-requires g c =
     let put = c.put_back.ensures.carries in
     let longer = c.requires.longer in (
       search rules,

@@ -19,7 +19,7 @@ use Rattle.fs_frame.specs.declared.front.Taken.{Taken}
 use Rattle.fs_frame.specs.declared.front.Taken.TheVariants.{Whole, Nothing, Spoilt}
 use Rattle.fs_frame.specs.declared.next.Next.{Next}
 use Rattle.fs_frame.specs.declared.next.Next.TheVariants.{Block, NeedMore, TooLong, BadLength}
-use Rattle.fs_frame.proofs.BodyLaws.{StandsInFront, front_of-stands, front_of-fault}
+use Rattle.fs_frame.proofs.BodyLaws.{StandsInFront, front_of-stands, front_of-fault, short_rest}
 use Rattle.fs_frame.proofs.BlockLaws.{HasNoBlock-front_of}
 use Rattle.fs_frame.proofs.FrontLaws.{headed_whole, headed_open}
 
@@ -154,3 +154,16 @@ IsNext-taken s (Spoilt (faults.TooLong len)) next is answer =
     rw answer (HandsOutNothing-none s (front_of-fault s.rest (faults.TooLong len) is), is)
 IsNext-taken s (Spoilt faults.BadLength) next is answer =
     rw answer (HandsOutNothing-none s (front_of-fault s.rest faults.BadLength is), is)
+
+-- and where that is that more is needed, no more bytes are held than a block may have
+pub few_held : (s : Stream) (taken : Taken) (next : Next) → IsTaken s.rest taken → IsAnswer (after_next_block s).last taken next →
+    next ≡ NeedMore → length s.rest ≤ 65536
+few_held s (Whole command) (Block block) is answer more = cc
+few_held s (Whole command) NeedMore is answer more = absurd answer
+few_held s (Whole command) (TooLong len) is answer more = cc
+few_held s (Whole command) BadLength is answer more = cc
+few_held s Nothing next is answer more = short_rest s.rest is.0 is.1
+few_held s (Spoilt (faults.TooLong len)) next is answer more =
+    let no : TooLong len ≡ NeedMore = sym answer ∙ more in cc
+few_held s (Spoilt faults.BadLength) next is answer more =
+    let no : BadLength ≡ NeedMore = sym answer ∙ more in cc

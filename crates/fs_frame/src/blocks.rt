@@ -40,12 +40,13 @@ impl Model for Blocks {
 }
 
 impl Blocks {
-    ghost use Rattle.std.specs.Prelude.{◌≡◌, [], IfOk, OnOk, OnErr};
+    ghost use Rattle.std.specs.Prelude.{◌≡◌, ◌≤◌, [], length, IfOk, OnOk, OnErr};
     ghost use Rattle.std.specs.Borrow.{sem};
     ghost use Rattle.std.specs.Io.BufRead.{Rests};
     ghost use Rattle.fs_frame.specs.Stream.{new_stream, fed_with, after_next_block};
     ghost use Rattle.fs_frame.specs.Next.{IsNext};
     ghost use Rattle.fs_frame.specs.Answer.{HasCommand, IsAnswer, IsTaken};
+    ghost use Rattle.fs_frame.specs.declared.next.Next.TheVariants.{NeedMore};
     ghost use Rattle.fs_frame.specs.contracts.blocks.Blocks.{the_row};
 
     /// A buffer to which nothing was fed.
@@ -71,9 +72,18 @@ impl Blocks {
         Ok(())
     }
 
-    /// Hands out the block in front, or says whether one may still come.
+    /// How many bytes were fed and not handed out.
+    pub fn held(&self) -> usize
+        ensures { result ≡ length self.now.rest }
+    {
+        self.bytes.len() - self.start
+    }
+
+    /// Hands out the block in front, or says whether one may still come. One does only where no more bytes are held than
+    /// a block may have.
     pub fn next_block(&mut self) -> Next<'_>
         ensures answer { IsNext self.old result }
+        ensures few { result ≡ NeedMore → length self.old.rest ≤ 65536 }
         ensures* after { sem 𝓛 (Rests the_row self.entry (λ new. new ≡ after_next_block self.old)) }
     {
         let taken = self.advance();

@@ -1,5 +1,5 @@
 use Rattle.std.proofs.Common.{refl}
-use Rattle.fs_frame.proofs.StreamLaws.{HasCommand-taken, IsNext-taken}
+use Rattle.fs_frame.proofs.StreamLaws.{HasCommand-taken, IsNext-taken, few_held}
 use Rattle.fs_frame.proofs.blocks.Blocks.next_block.Goals as goal
 
 pub show-requires : goal.show-requires
@@ -10,6 +10,8 @@ returns c = (
   (refl, λ _. tt, c.advance-taken.ensures.after),
   record {
     answer = IsNext-taken c.args.self.now c.advance-taken.result c.show.result c.advance-taken.ensures.taken
+        (rw c.advance-taken.ensures.after at c.show.ensures);
+    few = few_held c.args.self.now c.advance-taken.result c.show.result c.advance-taken.ensures.taken
         (rw c.advance-taken.ensures.after at c.show.ensures);
     after = tt;
   },

@@ -140,6 +140,9 @@ impl<T: Drop> Sheet<T> {
         ensures seats { seats.new ≡ spec.written seats.old self.old }
         ensures none { self.new ≡ [] }
     {
+        if self.writes.is_empty() {
+            return;
+        }
         for write in self.writes.iter_mut() {
             seats.put(write.seat, write.held.take());
         }

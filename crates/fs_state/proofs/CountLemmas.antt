@@ -138,5 +138,13 @@ all_on (event ∷ events) t low =
     counts_on t.all (with_event_counted event t).all (with_events_counted events (with_event_counted event t)).all
     1 (length events) (length (event ∷ events)) first (all_on events (with_event_counted event t) (omega arith)) more
 
+-- as many at least, as far as a count goes
+pub all_least : (events : List Event) (t : Tallies) → min (t.all + length events) (2 ^ 64 - 1) ≤ (with_events_counted events t).all
+all_least [] t = omega arith
+all_least (event ∷ events) t =
+    let first : (with_event_counted event t).all ≡ min (t.all + 1) (2 ^ 64 - 1) = refl in
+    let more : length (event ∷ events) ≡ 1 + length events = omega arith in
+    omega (arith, first, more, all_least events (with_event_counted event t))
+
 pub counts_all : (events : List Event) → (with_events_counted events no_tallies).all ≡ min (length events) (2 ^ 64 - 1)
 counts_all events = all_on events no_tallies (omega arith) ∙ from_none 0 (length events) refl

@@ -7,7 +7,7 @@ use Rattle.fs_text.specs.Texts.{Text}
 use Rattle.fs_seats.specs.declared.numbered.Numbered.{Numbered}
 use Rattle.fs_seats.specs.Seats.{held_in, with_held, IsEmptyFrom}
 use Rattle.fs_state.specs.declared.conn.Conn.{Conn}
-use Rattle.fs_state.specs.declared.gift.Gift.{Gift}
+use Rattle.fs_state.specs.Frames.{Gift}
 use Rattle.fs_state.specs.Switch.{Switch}
 use Rattle.fs_state.specs.Ending.{released, last_replies, last_notices, released_at, all_released}
 

@@ -12,7 +12,7 @@ use Rattle.fs_seats.specs.Rows.{seat_of, with_held_at}
 use Rattle.fs_seats.proofs.HeldLemmas.{all_alike}
 use Rattle.fs_seats.proofs.RowLemmas.{IsFree, seats_apart, free_apart, less_free}
 use Rattle.fs_state.specs.declared.conn.Conn.{Conn}
-use Rattle.fs_state.specs.declared.gift.Gift.{Gift}
+use Rattle.fs_state.specs.Frames.{Gift}
 use Rattle.fs_state.specs.Frames.{Frames, text_of, texts_of, is_event, events_in}
 use Rattle.fs_state.specs.Outboxes.{no_outboxes, outbox_at, with_outbox, without_first_frame, without_frames, with_frames_at}
 use Rattle.fs_state.specs.Outboxes.{with_gift_delivered, delivered}

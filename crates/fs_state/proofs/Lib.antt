@@ -1,3 +1,6 @@
+pub mod HeldLemmas
+pub mod MailLemmas
+pub mod DeliveryLemmas
 pub mod OutboxLemmas
 pub mod LossLemmas
 pub mod MoveLemmas
@@ -7,6 +10,7 @@ pub mod LegTables
 pub mod GiftLemmas
 pub mod HangupLemmas
 pub mod PostLemmas
+pub mod ListLemmas
 pub mod QueueLemmas
 pub mod QueueOrder
 pub mod EndLemmas

@@ -1,5 +1,5 @@
 -- That the outboxes have room for what is given.
-use Rattle.std.proofs.Common.{◌≡◌, ℕ, ◌+◌, ◌-◌, ◌^◌, ◌<◌, ◌≤◌, ◌==◌, min, Bool, true, false, List, [], ◌∷◌, ◌++◌, length, drop, get_or}
+use Rattle.std.proofs.Common.{◌≡◌, ℕ, zero, suc, ap, ◌+◌, ◌-◌, ◌^◌, ◌<◌, ◌≤◌, ◌==◌, min, Bool, true, false, List, [], ◌∷◌, ◌++◌, length, drop, get_or, replicate}
 use Rattle.std.proofs.Common.{Option, None, Some, refl, sym, subst, arith}
 use Rattle.std.specs.List.{slice_set, All}
 use Rattle.std.proofs.lemmas.List.{get_or-set_same, get_or-set_other, length-set, length-append, length-drop}
@@ -12,21 +12,21 @@ use Rattle.fs_state.specs.declared.delta.OutboxChange.TheVariants.{Unchanged, Ta
 use Rattle.fs_seats.specs.declared.numbered.Numbered.{Numbered}
 use Rattle.fs_seats.specs.Rows.{seat_of}
 use Rattle.fs_state.specs.declared.conn.Conn.{Conn}
-use Rattle.fs_state.specs.declared.gift.Gift.{Gift}
+use Rattle.fs_state.specs.Frames.{Gift}
 use Rattle.fs_state.specs.Frames.{Frames}
 use Rattle.fs_state.specs.Outboxes.{outbox_at, with_outbox, with_gift_delivered, outboxes_after, with_frames_at, frames_given}
 use Rattle.fs_state.specs.Outboxes.{delivered, HaveRoom, AreWithin, no_outboxes, without_first_frame, without_frames, with_frames}
 
 -- less fits where more does
-pub room_less : (outboxes : List Frames) (n m : ℕ) → n ≤ m → HaveRoom outboxes m → HaveRoom outboxes n
+pub room_less : {T : Type 0} → (outboxes : List (List T)) (n m : ℕ) → n ≤ m → HaveRoom outboxes m → HaveRoom outboxes n
 room_less outboxes n m less h = record { each = λ k d within. omega (arith, less, h.each k d within) }
 
 -- what holds of each outbox, and of another one that is put at a seat, holds of each then
-all_with : (P : Frames → Type 0) (seat : ℕ) (outbox : Frames) (outboxes : List Frames) → (seat < length outboxes → P outbox) → All P outboxes →
-    All P (with_outbox seat outbox outboxes)
-all_with P seat outbox outboxes put h = each
+all_with : {T : Type 0} → (P : List T → Type 0) (seat : ℕ) (outbox : List T) (outboxes : List (List T)) → (seat < length outboxes → P outbox) →
+    All P outboxes → All P (slice_set outboxes seat outbox)
+all_with {T} P seat outbox outboxes put h = each
   where
-    at : (k : ℕ) (d : Frames) → k < length outboxes → (b : Bool) → (k == seat) ≡ b → P (get_or (slice_set outboxes seat outbox) k d)
+    at : (k : ℕ) (d : List T) → k < length outboxes → (b : Bool) → (k == seat) ≡ b → P (get_or (slice_set outboxes seat outbox) k d)
     at k d there true e =
         let same : k ≡ seat = eqb-true k seat e in
         let here : seat < length outboxes = subst (λ p. p < length outboxes) same there in
@@ -35,12 +35,19 @@ all_with P seat outbox outboxes put h = each
     at k d there false e =
         subst P (sym (get_or-set_other outboxes seat k outbox d (λ same. grind (arith, nat_tests, e, same)))) (h k d there)
 
-    each : (k : ℕ) (d : Frames) → k < length (slice_set outboxes seat outbox) → P (get_or (slice_set outboxes seat outbox) k d)
+    each : (k : ℕ) (d : List T) → k < length (slice_set outboxes seat outbox) → P (get_or (slice_set outboxes seat outbox) k d)
     each k d within = at k d (subst (λ len. k < len) (length-set outboxes seat outbox) within) (k == seat) refl
 
+-- what is put last at a seat stands there
+pub set_again : {T : Type 0} → (outboxes : List T) (seat : ℕ) (first last : T) →
+    slice_set (slice_set outboxes seat first) seat last ≡ slice_set outboxes seat last
+set_again [] seat first last = refl
+set_again (outbox ∷ outboxes) zero first last = refl
+set_again (outbox ∷ outboxes) (suc seat) first last = ap (λ rest. outbox ∷ rest) (set_again outboxes seat first last)
+
 -- with another outbox at a seat, where it has so many frames more at most
-room_with : (seat : ℕ) (outbox : Frames) (outboxes : List Frames) (n more : ℕ) → length outbox ≤ length (outbox_at outboxes seat) + more →
-    HaveRoom outboxes (more + n) → HaveRoom (with_outbox seat outbox outboxes) n
+pub room_with : {T : Type 0} → (seat : ℕ) (outbox : List T) (outboxes : List (List T)) (n more : ℕ) →
+    length outbox ≤ length (get_or outboxes seat []) + more → HaveRoom outboxes (more + n) → HaveRoom (slice_set outboxes seat outbox) n
 room_with seat outbox outboxes n more shorter h = record {
   each = all_with (λ q. length q + n < 2 ^ 63) seat outbox outboxes (λ here. omega (arith, shorter, h.each seat [] here))
       (λ k d within. omega (arith, h.each k d within));
@@ -88,7 +95,7 @@ room_for_back conns (gift ∷ front) back outboxes h =
 -- ---- the end of a draft
 
 -- what is counted as far as 64 bits go, where it fits
-pub room_counted : (outboxes : List Frames) (count : ℕ) → HaveRoom outboxes (min count (2 ^ 64 - 1)) → HaveRoom outboxes count
+pub room_counted : {T : Type 0} → (outboxes : List (List T)) (count : ℕ) → HaveRoom outboxes (min count (2 ^ 64 - 1)) → HaveRoom outboxes count
 room_counted outboxes count h = record { each = λ k d within. omega (arith, h.each k d within) }
 
 -- taking frames out leaves room
@@ -101,29 +108,29 @@ room_after (Cleared seat) outboxes n h = room_with seat [] outboxes n 0 (omega a
 
 -- ---- how many frames an outbox has at most
 
-pub within_none : (count : ℕ) → AreWithin (no_outboxes count) 0
-unfolding no_outboxes
-within_none count = record { each = All-replicate (λ outbox. length outbox ≤ 0) count [] (omega arith) }
+pub within_none : {T : Type 0} → (count : ℕ) → AreWithin (replicate {A = List T} count []) 0
+within_none {T} count = record { each = All-replicate (λ (outbox : List T). length outbox ≤ 0) count [] (omega arith) }
 
-pub within_taken : (seat : ℕ) (outboxes : List Frames) (most : ℕ) → AreWithin outboxes most →
-    AreWithin (without_first_frame seat outboxes) most
+pub within_taken : {T : Type 0} → (seat : ℕ) (outboxes : List (List T)) (most : ℕ) → AreWithin outboxes most →
+    AreWithin (slice_set outboxes seat (drop 1 (get_or outboxes seat []))) most
 within_taken seat outboxes most h = record {
-  each = all_with (λ q. length q ≤ most) seat (drop 1 (outbox_at outboxes seat)) outboxes
-      (λ here. omega (arith, length-drop 1 (outbox_at outboxes seat), h.each seat [] here)) h.each;
+  each = all_with (λ q. length q ≤ most) seat (drop 1 (get_or outboxes seat [])) outboxes
+      (λ here. omega (arith, length-drop 1 (get_or outboxes seat []), h.each seat [] here)) h.each;
 }
 
-pub within_cleared : (seat : ℕ) (outboxes : List Frames) (most : ℕ) → AreWithin outboxes most → AreWithin (without_frames seat outboxes) most
-within_cleared seat outboxes most h = record { each = all_with (λ q. length q ≤ most) seat [] outboxes (λ here. omega arith) h.each }
-
--- with as many frames more as are put behind one, as far as 64 bits go
-pub within_given : (seat : ℕ) (frames : Frames) (outboxes : List Frames) (most : ℕ) → HaveRoom outboxes (length frames) →
-    AreWithin outboxes most → AreWithin (with_frames seat frames outboxes) (min (most + length frames) (2 ^ 64 - 1))
-within_given seat frames outboxes most room h = record {
-  each = all_with (λ q. length q ≤ min (most + length frames) (2 ^ 64 - 1)) seat (outbox_at outboxes seat ++ frames) outboxes
-      (λ here. omega (arith, length-append (outbox_at outboxes seat) frames, h.each seat [] here, room.each seat [] here))
-      (λ k d within. omega (arith, h.each k d within, room.each k d within));
+-- one that has so many more at most
+pub within_given : {T : Type 0} → (seat : ℕ) (more : List T) (outboxes : List (List T)) (most : ℕ) → AreWithin outboxes most →
+    AreWithin (slice_set outboxes seat (get_or outboxes seat [] ++ more)) (most + length more)
+within_given seat more outboxes most h = record {
+  each = all_with (λ q. length q ≤ most + length more) seat (get_or outboxes seat [] ++ more) outboxes
+      (λ here. omega (arith, length-append (get_or outboxes seat []) more, h.each seat [] here))
+      (λ k d within. omega (arith, h.each k d within));
 }
+
+pub within_less : {T : Type 0} → (outboxes : List (List T)) (most more : ℕ) → most ≤ more → AreWithin outboxes most → AreWithin outboxes more
+within_less outboxes most more less h = record { each = λ k d within. omega (arith, less, h.each k d within) }
 
 -- so outboxes have room for as many as are wanting to 2^63
-pub room_within : (outboxes : List Frames) (most count : ℕ) → AreWithin outboxes most → count + most < 2 ^ 63 → HaveRoom outboxes count
+pub room_within : {T : Type 0} → (outboxes : List (List T)) (most count : ℕ) → AreWithin outboxes most → count + most < 2 ^ 63 →
+    HaveRoom outboxes count
 room_within outboxes most count h less = record { each = λ k d within. omega (arith, less, h.each k d within) }

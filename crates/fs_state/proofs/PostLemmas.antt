@@ -20,18 +20,25 @@ use Rattle.fs_seats.specs.Seats.{held_in, first_seat, IsEmptyFrom}
 use Rattle.fs_seats.specs.Rows.{seat_of}
 use Rattle.fs_state.specs.declared.conn.Conn.{Conn}
 use Rattle.fs_state.specs.declared.event.Event.{Event}
-use Rattle.fs_state.specs.declared.gift.Gift.{Gift}
-use Rattle.fs_state.specs.declared.outgoing.Outgoing.TheVariants as outgoing
+use Rattle.fs_state.specs.Frames.{Gift}
+use Rattle.fs_state.specs.Frames as outgoing
 use Rattle.fs_state.specs.declared.post.Post.{Post}
 use Rattle.fs_state.specs.Frames.{Frames}
 use Rattle.fs_state.specs.Losses.{Losses}
 use Rattle.fs_state.specs.Switch.{Switch}
+use Rattle.fs_state.specs.declared.outbox.Waiting.TheVariants as waiting
+use Rattle.fs_state.specs.Waiting.{Outbox}
 use Rattle.fs_state.specs.Posting.{subclass_in, telling_of, tellings_from, tellings, wanted_by, posts_of, wanted_of, posts_at, posts_from, with_loss_of}
 use Rattle.fs_state.specs.Posting.{losses_from, posts, losses_after, with_posts, wants_at, is_wanted, hears_at, is_heard, AreDeaf, told_of}
-use Rattle.fs_state.specs.Posting.{told, post_of, posts_told, is_taken, frames_at, room_for, frames_within, gifts_of, with_post, with_lost}
+use Rattle.fs_state.specs.Posting.{post_of, posts_numbered, posts_told, is_taken, frames_at, numbers_at, room_for, frames_within, numbers_within}
+use Rattle.fs_state.specs.Posting.{gifts_of, lists_of, with_post, with_lost, with_lists}
 use Rattle.fs_state.specs.Posting.{left_for, posted_to, posted_at, posted_over}
 
 -- ---- what nobody hears nobody wants
+
+-- what the events of an entry tell that some connection wants
+abbrev told : Switch → Switch → List Telling
+told before s = filter (is_wanted before.conns) (tellings before s)
 
 -- the connections that stand at seats
 abbrev Seats : Type 0
@@ -99,15 +106,15 @@ told_unwanted before s number event unwanted =
     ap (λ b. if b then Some (telling_of before s number event) else None) unwanted
 
 -- where nobody hears anything none is
-deaf_filter : (conns : Seats) (all : List Telling) → AreDeaf conns → filter (is_wanted conns) all ≡ []
-deaf_filter conns [] deaf = refl
-deaf_filter conns (telling ∷ all) deaf =
-    ap (λ b. cond b (telling ∷ filter (is_wanted conns) all) (filter (is_wanted conns) all))
-    (unheard conns telling (deaf.each telling.name telling.subclass))
-    ∙ deaf_filter conns all deaf
+deaf_posts : (seats : ℕ) (conns : Seats) (number : ℕ) (all : List Telling) → AreDeaf conns → posts_numbered seats conns number all ≡ []
+deaf_posts seats conns number [] deaf = refl
+deaf_posts seats conns number (telling ∷ all) deaf =
+    ap (λ b. if b then post_of (take seats conns) number telling ∷ posts_numbered seats conns (number + 1) all
+    else posts_numbered seats conns (number + 1) all) (unheard conns telling (deaf.each telling.name telling.subclass))
+    ∙ deaf_posts seats conns (number + 1) all deaf
 
-pub untold_deaf : (before s : Switch) → AreDeaf before.conns → told before s ≡ []
-untold_deaf before s deaf = deaf_filter before.conns (tellings before s) deaf
+pub untold_deaf : (seats : ℕ) (before s : Switch) → AreDeaf before.conns → posts_told seats before s ≡ []
+untold_deaf seats before s deaf = deaf_posts seats before.conns (s.counts.all + 1) (tellings before s) deaf
 
 none_there : {T : Type 0} → (list : List T) → (length list == 0) ≡ true → list ≡ []
 none_there [] none = refl
@@ -116,74 +123,80 @@ none_there (x ∷ list) none =
     absurd (omega (arith, zero))
 
 -- nor where nothing happened
-quiet_told : (before s : Switch) → s.news ≡ [] → told before s ≡ []
+quiet_told : (seats : ℕ) (before s : Switch) → s.news ≡ [] → posts_told seats before s ≡ []
 unfolding tellings
-quiet_told before s none = ap (λ events. filter (is_wanted before.conns) (tellings_from before s (s.counts.all + 1) events)) none
+quiet_told seats before s none =
+    ap (λ events. posts_numbered seats before.conns (s.counts.all + 1) (tellings_from before s (s.counts.all + 1) events)) none
 
-pub untold_quiet : (before s : Switch) → (length s.news == 0) ≡ true → told before s ≡ []
-untold_quiet before s none = quiet_told before s (none_there s.news none)
+pub untold_quiet : (seats : ℕ) (before s : Switch) → (length s.news == 0) ≡ true → posts_told seats before s ≡ []
+untold_quiet seats before s none = quiet_told seats before s (none_there s.news none)
 
 -- ---- what is told, event by event
 
--- what events tell that some connection wants, the first of which has this number
-abbrev pub told_from : Switch → Switch → ℕ → List Event → List Telling
-told_from before s number events = filter (is_wanted before.conns) (tellings_from before s number events)
+-- the posts of events, the first of which has this number
+abbrev pub posts_left : ℕ → Switch → Switch → ℕ → List Event → List Post
+posts_left seats before s number events = posts_numbered seats before.conns number (tellings_from before s number events)
 
 -- all of them, from the first on
-pub told_whole : (before s : Switch) → told_from before s (s.counts.all + 1) s.news ≡ told before s
+pub told_whole : (seats : ℕ) (before s : Switch) → posts_left seats before s (s.counts.all + 1) s.news ≡ posts_told seats before s
 unfolding tellings
-told_whole before s = refl
+told_whole seats before s = refl
 
--- the posts of those events
-abbrev pub posts_left : ℕ → Switch → Switch → ℕ → List Event → List Post
-posts_left seats before s number events = map (post_of (take seats before.conns)) (told_from before s number events)
-
-told_case : (of : Telling → Post) (b : Bool) (telling : Telling) (more : List Telling) (post : Option Post) →
+told_case : (of : Telling → Post) (b : Bool) (telling : Telling) (more : List Post) (post : Option Post) →
     post ≡ option_map of (if b then Some telling else None) → (p : Post) → post ≡ Some p →
-    map of (cond b (telling ∷ more) more) ≡ p ∷ map of more
+    (if b then of telling ∷ more else more) ≡ p ∷ more
 told_case of true telling more post is p some =
     let same : Some (of telling) ≡ Some p = sym is ∙ some in
     let one : of telling ≡ p = cc in
-    ap (λ (p : Post). p ∷ map of more) one
+    ap (λ (p : Post). p ∷ more) one
 told_case of false telling more post is p some = let no : None ≡ Some p = sym is ∙ some in absurd cc
 
-untold_case : (of : Telling → Post) (b : Bool) (telling : Telling) (more : List Telling) (post : Option Post) →
+untold_case : (of : Telling → Post) (b : Bool) (telling : Telling) (more : List Post) (post : Option Post) →
     post ≡ option_map of (if b then Some telling else None) → post ≡ None →
-    map of (cond b (telling ∷ more) more) ≡ map of more
+    (if b then of telling ∷ more else more) ≡ more
 untold_case of true telling more post is none = let no : Some (of telling) ≡ None = sym is ∙ none in absurd cc
 untold_case of false telling more post is none = refl
 
--- the next event is told, or not
-pub told_next : (seats : ℕ) (before s : Switch) (posts all : List Post) (events : List Event) (number n i : ℕ) (d : Event) (p : Post)
-    (post : Option Post) →
-    i < length events → number ≡ min n (2 ^ 64 - 1) →
-    posts ++ posts_left seats before s n (drop i events) ≡ all →
-    post ≡ option_map (post_of (take seats before.conns)) (told_of before s number (get_or events i d)) → post ≡ Some p →
-    (posts ++ p ∷ []) ++ posts_left seats before s (n + 1) (drop (i + 1) events) ≡ all
-told_next seats before s posts all events number n i d p post within is kept told some =
-    let of = post_of (take seats before.conns) in
-    let event = get_or events i d in
-    let more = told_from before s (n + 1) (drop (i + 1) events) in
-    let here : posts_left seats before s n (drop i events) ≡ p ∷ map of more =
+-- the first of the events that are left is told, or not
+left_more : (seats : ℕ) (before s : Switch) (events : List Event) (n i : ℕ) (d : Event) → i < length events → n ≤ 2 ^ 64 - 1 →
+    posts_left seats before s n (drop i events)
+    ≡ (if is_wanted before.conns (telling_of before s n (get_or events i d))
+    then post_of (take seats before.conns) n (telling_of before s n (get_or events i d)) ∷ posts_left seats before s (n + 1) (drop (i + 1) events)
+    else posts_left seats before s (n + 1) (drop (i + 1) events))
+left_more seats before s events n i d within low =
+    let number : min n (2 ^ 64 - 1) ≡ n = omega (arith, low) in
+    let more = posts_left seats before s (n + 1) (drop (i + 1) events) in
     at_drop_more (posts_left seats before s n) events i d within
-    ∙ told_case of (is_wanted before.conns (telling_of before s (min n (2 ^ 64 - 1)) event)) (telling_of before s (min n (2 ^ 64 - 1)) event)
-    more post (told ∙ ap (λ k. option_map of (told_of before s k event)) is) p some in
-    append_assoc posts (p ∷ []) (map of more) ∙ sym (ap (λ rest. posts ++ rest) here) ∙ kept
+    ∙ ap (λ k. if is_wanted before.conns (telling_of before s k (get_or events i d))
+    then post_of (take seats before.conns) n (telling_of before s k (get_or events i d)) ∷ more else more) number
 
-pub told_skip : (seats : ℕ) (before s : Switch) (posts all : List Post) (events : List Event) (number n i : ℕ) (d : Event)
+-- the next event is told, or not
+pub told_next : (seats : ℕ) (before s : Switch) (posts all : List Post) (events : List Event) (n i : ℕ) (d : Event) (p : Post)
     (post : Option Post) →
-    i < length events → number ≡ min n (2 ^ 64 - 1) →
+    i < length events → n ≤ 2 ^ 64 - 1 →
     posts ++ posts_left seats before s n (drop i events) ≡ all →
-    post ≡ option_map (post_of (take seats before.conns)) (told_of before s number (get_or events i d)) → post ≡ None →
+    post ≡ option_map (post_of (take seats before.conns) n) (told_of before s n (get_or events i d)) → post ≡ Some p →
+    (posts ++ p ∷ []) ++ posts_left seats before s (n + 1) (drop (i + 1) events) ≡ all
+told_next seats before s posts all events n i d p post within low kept told some =
+    let of = post_of (take seats before.conns) n in
+    let telling = telling_of before s n (get_or events i d) in
+    let more = posts_left seats before s (n + 1) (drop (i + 1) events) in
+    let here : posts_left seats before s n (drop i events) ≡ p ∷ more =
+    left_more seats before s events n i d within low ∙ told_case of (is_wanted before.conns telling) telling more post told p some in
+    append_assoc posts (p ∷ []) more ∙ sym (ap (λ rest. posts ++ rest) here) ∙ kept
+
+pub told_skip : (seats : ℕ) (before s : Switch) (posts all : List Post) (events : List Event) (n i : ℕ) (d : Event)
+    (post : Option Post) →
+    i < length events → n ≤ 2 ^ 64 - 1 →
+    posts ++ posts_left seats before s n (drop i events) ≡ all →
+    post ≡ option_map (post_of (take seats before.conns) n) (told_of before s n (get_or events i d)) → post ≡ None →
     posts ++ posts_left seats before s (n + 1) (drop (i + 1) events) ≡ all
-told_skip seats before s posts all events number n i d post within is kept told none =
-    let of = post_of (take seats before.conns) in
-    let event = get_or events i d in
-    let more = told_from before s (n + 1) (drop (i + 1) events) in
-    let here : posts_left seats before s n (drop i events) ≡ map of more =
-    at_drop_more (posts_left seats before s n) events i d within
-    ∙ untold_case of (is_wanted before.conns (telling_of before s (min n (2 ^ 64 - 1)) event))
-    (telling_of before s (min n (2 ^ 64 - 1)) event) more post (told ∙ ap (λ k. option_map of (told_of before s k event)) is) none in
+told_skip seats before s posts all events n i d post within low kept told none =
+    let of = post_of (take seats before.conns) n in
+    let telling = telling_of before s n (get_or events i d) in
+    let more = posts_left seats before s (n + 1) (drop (i + 1) events) in
+    let here : posts_left seats before s n (drop i events) ≡ more =
+    left_more seats before s events n i d within low ∙ untold_case of (is_wanted before.conns telling) telling more post told none in
     sym (ap (λ rest. posts ++ rest) here) ∙ kept
 
 -- ---- who wants it
@@ -221,75 +234,75 @@ taken_next telling conns seat asked wants within is here =
     ∙ sym (ap (map (wants_at telling)) (take_more conns seat None within)
     ∙ map-append (wants_at telling) (take seat conns) (held_in conns seat ∷ []))
 
--- ---- the frames of one connection
+-- ---- the numbers of one connection
 
-map_if : (b : Bool) (post : Post) → map (λ (post : Post). post.frame) (cond b (post ∷ []) []) ≡ cond b (post.frame ∷ []) []
+map_if : (b : Bool) (post : Post) → map (λ (post : Post). post.number) (cond b (post ∷ []) []) ≡ cond b (post.number ∷ []) []
 map_if true post = refl
 map_if false post = refl
 
 taken_more : (seat : ℕ) (posts : List Post) (i : ℕ) (d : Post) → i < length posts →
-    frames_at seat (take (i + 1) posts)
-    ≡ frames_at seat (take i posts) ++ cond (is_taken seat (get_or posts i d)) ((get_or posts i d).frame ∷ []) []
+    numbers_at seat (take (i + 1) posts)
+    ≡ numbers_at seat (take i posts) ++ cond (is_taken seat (get_or posts i d)) ((get_or posts i d).number ∷ []) []
 taken_more seat posts i d within =
-    ap (map (λ (post : Post). post.frame)) (filter_more (is_taken seat) posts i d within)
-    ∙ map-append (λ (post : Post). post.frame) (filter (is_taken seat) (take i posts))
+    ap (map (λ (post : Post). post.number)) (filter_more (is_taken seat) posts i d within)
+    ∙ map-append (λ (post : Post). post.number) (filter (is_taken seat) (take i posts))
     (cond (is_taken seat (get_or posts i d)) (get_or posts i d ∷ []) [])
-    ∙ ap (λ more. frames_at seat (take i posts) ++ more) (map_if (is_taken seat (get_or posts i d)) (get_or posts i d))
+    ∙ ap (λ more. numbers_at seat (take i posts) ++ more) (map_if (is_taken seat (get_or posts i d)) (get_or posts i d))
 
-within_length : (room : ℕ) (texts : List Text) → length (frames_within room texts) ≡ min room (length texts)
-within_length room texts = length-map (take room texts) outgoing.Event ∙ length-take room texts
+within_length : (room : ℕ) (numbers : List ℕ) → length (numbers_within room numbers) ≡ min room (length numbers)
+within_length room numbers = length-map (take room numbers) waiting.Event ∙ length-take room numbers
 
-take_whole : (room : ℕ) (texts : List Text) → length texts ≤ room → take room texts ≡ texts
-take_whole room texts few =
-    let all : min room (length texts) ≡ length texts = omega (arith, few) in
-    sym (take_min room texts) ∙ ap (λ n. take n texts) all ∙ take-length texts
+take_whole : (room : ℕ) (numbers : List ℕ) → length numbers ≤ room → take room numbers ≡ numbers
+take_whole room numbers few =
+    let all : min room (length numbers) ≡ length numbers = omega (arith, few) in
+    sym (take_min room numbers) ∙ ap (λ n. take n numbers) all ∙ take-length numbers
 
-within_room : (room : ℕ) (texts : List Text) (text : Text) → length (frames_within room texts) < room →
-    frames_within room (texts ++ text ∷ []) ≡ frames_within room texts ++ outgoing.Event text ∷ []
-within_room room texts text more =
-    let few : length texts + 1 ≤ room = omega (arith, more, within_length room texts) in
-    let whole : length (texts ++ text ∷ []) ≤ room = omega (arith, few, length-append texts (text ∷ [])) in
-    ap (map outgoing.Event) (take_whole room (texts ++ text ∷ []) whole)
-    ∙ map-append outgoing.Event texts (text ∷ [])
-    ∙ sym (ap (λ front. map outgoing.Event front ++ outgoing.Event text ∷ []) (take_whole room texts (omega (arith, few))))
+within_room : (room : ℕ) (numbers : List ℕ) (number : ℕ) → length (numbers_within room numbers) < room →
+    numbers_within room (numbers ++ number ∷ []) ≡ numbers_within room numbers ++ waiting.Event number ∷ []
+within_room room numbers number more =
+    let few : length numbers + 1 ≤ room = omega (arith, more, within_length room numbers) in
+    let whole : length (numbers ++ number ∷ []) ≤ room = omega (arith, few, length-append numbers (number ∷ [])) in
+    ap (map waiting.Event) (take_whole room (numbers ++ number ∷ []) whole)
+    ∙ map-append waiting.Event numbers (number ∷ [])
+    ∙ sym (ap (λ front. map waiting.Event front ++ waiting.Event number ∷ []) (take_whole room numbers (omega (arith, few))))
 
-within_full : (room : ℕ) (texts more : List Text) → room ≤ length (frames_within room texts) →
-    frames_within room (texts ++ more) ≡ frames_within room texts
-within_full room texts more full =
-    ap (map outgoing.Event) (take-append-le room texts more (omega (arith, full, within_length room texts)))
+within_full : (room : ℕ) (numbers more : List ℕ) → room ≤ length (numbers_within room numbers) →
+    numbers_within room (numbers ++ more) ≡ numbers_within room numbers
+within_full room numbers more full =
+    ap (map waiting.Event) (take-append-le room numbers more (omega (arith, full, within_length room numbers)))
 
 -- the next event is wanted, and there is room
-pub frame_taken : (room i seat : ℕ) (posts : List Post) (frames : Frames) (d : Post) → i < length posts →
-    frames ≡ frames_within room (frames_at seat (take i posts)) → length frames < room → is_taken seat (get_or posts i d) ≡ true →
-    frames ++ outgoing.Event (get_or posts i d).frame ∷ [] ≡ frames_within room (frames_at seat (take (i + 1) posts))
-frame_taken room i seat posts frames d within is more wanted =
-    let room_left : length (frames_within room (frames_at seat (take i posts))) < room =
-    subst (λ (some : Frames). length some < room) is more in
-    ap (λ (some : Frames). some ++ outgoing.Event (get_or posts i d).frame ∷ []) is
-    ∙ sym (ap (frames_within room) (taken_more seat posts i d within
-    ∙ ap (λ b. frames_at seat (take i posts) ++ cond b ((get_or posts i d).frame ∷ []) []) wanted)
-    ∙ within_room room (frames_at seat (take i posts)) (get_or posts i d).frame room_left)
+pub number_taken : (room i seat : ℕ) (posts : List Post) (list : Outbox) (d : Post) → i < length posts →
+    list ≡ numbers_within room (numbers_at seat (take i posts)) → length list < room → is_taken seat (get_or posts i d) ≡ true →
+    list ++ waiting.Event (get_or posts i d).number ∷ [] ≡ numbers_within room (numbers_at seat (take (i + 1) posts))
+number_taken room i seat posts list d within is more wanted =
+    let room_left : length (numbers_within room (numbers_at seat (take i posts))) < room =
+    subst (λ (some : Outbox). length some < room) is more in
+    ap (λ (some : Outbox). some ++ waiting.Event (get_or posts i d).number ∷ []) is
+    ∙ sym (ap (numbers_within room) (taken_more seat posts i d within
+    ∙ ap (λ b. numbers_at seat (take i posts) ++ cond b ((get_or posts i d).number ∷ []) []) wanted)
+    ∙ within_room room (numbers_at seat (take i posts)) (get_or posts i d).number room_left)
 
 -- there is no room
-pub frame_lost : (room i seat : ℕ) (posts : List Post) (frames : Frames) (d : Post) → i < length posts →
-    frames ≡ frames_within room (frames_at seat (take i posts)) → room ≤ length frames →
-    frames ≡ frames_within room (frames_at seat (take (i + 1) posts))
-frame_lost room i seat posts frames d within is full =
-    let none_left : room ≤ length (frames_within room (frames_at seat (take i posts))) =
-    subst (λ (some : Frames). room ≤ length some) is full in
+pub number_lost : (room i seat : ℕ) (posts : List Post) (list : Outbox) (d : Post) → i < length posts →
+    list ≡ numbers_within room (numbers_at seat (take i posts)) → room ≤ length list →
+    list ≡ numbers_within room (numbers_at seat (take (i + 1) posts))
+number_lost room i seat posts list d within is full =
+    let none_left : room ≤ length (numbers_within room (numbers_at seat (take i posts))) =
+    subst (λ (some : Outbox). room ≤ length some) is full in
     is
-    ∙ sym (ap (frames_within room) (taken_more seat posts i d within)
-    ∙ within_full room (frames_at seat (take i posts)) (cond (is_taken seat (get_or posts i d)) ((get_or posts i d).frame ∷ []) []) none_left)
+    ∙ sym (ap (numbers_within room) (taken_more seat posts i d within)
+    ∙ within_full room (numbers_at seat (take i posts)) (cond (is_taken seat (get_or posts i d)) ((get_or posts i d).number ∷ []) []) none_left)
 
 -- it is not wanted
-pub frame_unwanted : (room i seat : ℕ) (posts : List Post) (frames : Frames) (d : Post) → i < length posts →
-    frames ≡ frames_within room (frames_at seat (take i posts)) → is_taken seat (get_or posts i d) ≡ false →
-    frames ≡ frames_within room (frames_at seat (take (i + 1) posts))
-frame_unwanted room i seat posts frames d within is unwanted =
+pub number_unwanted : (room i seat : ℕ) (posts : List Post) (list : Outbox) (d : Post) → i < length posts →
+    list ≡ numbers_within room (numbers_at seat (take i posts)) → is_taken seat (get_or posts i d) ≡ false →
+    list ≡ numbers_within room (numbers_at seat (take (i + 1) posts))
+number_unwanted room i seat posts list d within is unwanted =
     is
-    ∙ sym (ap (frames_within room) (taken_more seat posts i d within
-    ∙ ap (λ b. frames_at seat (take i posts) ++ cond b ((get_or posts i d).frame ∷ []) []) unwanted
-    ∙ append-nil (frames_at seat (take i posts))))
+    ∙ sym (ap (numbers_within room) (taken_more seat posts i d within
+    ∙ ap (λ b. numbers_at seat (take i posts) ++ cond b ((get_or posts i d).number ∷ []) []) unwanted
+    ∙ append-nil (numbers_at seat (take i posts))))
 
 -- how many are wanted
 pub wanted_count : (seat : ℕ) (posts : List Post) → length (frames_at seat posts) ≡ count_by (is_taken seat) posts
@@ -310,29 +323,44 @@ front_held seats seat conns row empty held =
     ]
 
 -- the connection at a seat wants of these events what it has subscribed
-taken_at : (seats seat : ℕ) (conns : Seats) (row : Numbered Conn) (telling : Telling) → IsEmptyFrom seats conns →
+taken_at : (seats seat : ℕ) (conns : Seats) (row : Numbered Conn) (number : ℕ) (telling : Telling) → IsEmptyFrom seats conns →
     held_in conns seat ≡ Some row →
-    is_taken seat (post_of (take seats conns) telling) ≡ wants row.held.subs telling
-taken_at seats seat conns row telling empty held =
+    is_taken seat (post_of (take seats conns) number telling) ≡ wants row.held.subs telling
+taken_at seats seat conns row number telling empty held =
     get_or-map (wants_at telling) (take seats conns) seat None
     ∙ ap (wants_at telling) (front_held seats seat conns row empty held)
 
-pub taken_frames : (seats seat : ℕ) (conns : Seats) (row : Numbered Conn) (all : List Telling) → IsEmptyFrom seats conns →
+pub taken_frames : (seats seat : ℕ) (conns : Seats) (row : Numbered Conn) (number : ℕ) (all : List Telling) → IsEmptyFrom seats conns →
     held_in conns seat ≡ Some row →
-    frames_at seat (map (post_of (take seats conns)) all) ≡ wanted_by row.held.subs all
-taken_frames seats seat conns row [] empty held = refl
-taken_frames seats seat conns row (telling ∷ all) empty held =
-    by (is_taken seat (post_of (take seats conns) telling)) (wants row.held.subs telling) (taken_at seats seat conns row telling empty held)
-    (taken_frames seats seat conns row all empty held)
+    frames_at seat (posts_numbered seats conns number all) ≡ wanted_by row.held.subs (filter (is_wanted conns) all)
+taken_frames seats seat conns row number [] empty held = refl
+taken_frames seats seat conns row number (telling ∷ all) empty held =
+    on (is_wanted conns telling) (taken_frames seats seat conns row (number + 1) all empty held)
   where
-    by : (taken wanted : Bool) → taken ≡ wanted → frames_at seat (map (post_of (take seats conns)) all) ≡ wanted_by row.held.subs all →
-        map (λ (post : Post). post.frame) (cond taken (post_of (take seats conns) telling ∷ filter (is_taken seat)
-        (map (post_of (take seats conns)) all)) (filter (is_taken seat) (map (post_of (take seats conns)) all)))
-        ≡ map frame (cond wanted (telling ∷ filter (wants row.held.subs) all) (filter (wants row.held.subs) all))
-    by true true same rest = ap (λ more. frame telling ∷ more) rest
-    by false false same rest = rest
-    by true false same rest = absurd (true≢false same)
-    by false true same rest = absurd (true≢false (sym same))
+    subs : Subscription
+    subs = row.held.subs
+
+    post : Post
+    post = post_of (take seats conns) number telling
+
+    rest : List Post
+    rest = posts_numbered seats conns (number + 1) all
+
+    kept : List Telling
+    kept = filter (is_wanted conns) all
+
+    by : (taken wanted : Bool) → taken ≡ wanted → frames_at seat rest ≡ wanted_by subs kept →
+        map (λ (post : Post). post.frame) (cond taken (post ∷ filter (is_taken seat) rest) (filter (is_taken seat) rest))
+        ≡ map frame (cond wanted (telling ∷ filter (wants subs) kept) (filter (wants subs) kept))
+    by true true same again = ap (λ more. frame telling ∷ more) again
+    by false false same again = again
+    by true false same again = absurd (true≢false same)
+    by false true same again = absurd (true≢false (sym same))
+
+    on : (b : Bool) → frames_at seat rest ≡ wanted_by subs kept →
+        frames_at seat (if b then post ∷ rest else rest) ≡ wanted_by subs (cond b (telling ∷ kept) kept)
+    on true again = by (is_taken seat post) (wants subs telling) (taken_at seats seat conns row number telling empty held) again
+    on false again = again
 
 -- ---- one connection
 
@@ -428,22 +456,21 @@ gifts_posts : (conn : ℕ) (texts : List Text) → gifts_of conn (map outgoing.E
 gifts_posts conn [] = refl
 gifts_posts conn (text ∷ texts) = refl
 
-over_done : (before : Switch) (seats : ℕ) (all : List Telling) (whole : Seats) (seat : ℕ) (conns : Seats) (s : Switch) →
-    IsEmptyFrom seats whole → ((k : ℕ) → held_in whole (seat + k) ≡ held_in conns k) →
-    posted_over before (map (post_of (take seats whole)) all) seat conns s
+over_done : (before : Switch) (posts : List Post) (all : List Telling) (whole : Seats) (seat : ℕ) (conns : Seats) (s : Switch) →
+    ((k : ℕ) (row : Numbered Conn) → held_in whole k ≡ Some row → frames_at k posts ≡ wanted_by row.held.subs all) →
+    ((k : ℕ) → held_in whole (seat + k) ≡ held_in conns k) →
+    posted_over before posts seat conns s
     ≡ record s { posted = s.posted ++ gifts_over before s.conns all conns; losses = losses_over before s.conns all conns s.losses }
-over_done before seats all whole seat [] s empty same = sym (ap (λ (gifts : List Gift). record s { posted = gifts }) (append-nil s.posted))
-over_done before seats all whole seat (None ∷ conns) s empty same =
-    over_done before seats all whole (seat + 1) conns s empty (λ k. ap (held_in whole) (omega arith) ∙ same (suc k))
-over_done before seats all whole seat (Some row ∷ conns) s empty same =
-    let posts = map (post_of (take seats whole)) all in
+over_done before posts all whole seat [] s wanted same = sym (ap (λ (gifts : List Gift). record s { posted = gifts }) (append-nil s.posted))
+over_done before posts all whole seat (None ∷ conns) s wanted same =
+    over_done before posts all whole (seat + 1) conns s wanted (λ k. ap (held_in whole) (omega arith) ∙ same (suc k))
+over_done before posts all whole seat (Some row ∷ conns) s wanted same =
     let here : held_in whole seat ≡ Some row = ap (held_in whole) {x = seat} {y = seat + 0} (omega arith) ∙ same 0 in
     let texts = take (room_for before row.number) (wanted_of s.conns all row) in
     let lost = length (wanted_of s.conns all row) - room_for before row.number in
     let losses = losses_over before s.conns all conns (with_loss_of row.number lost s.losses) in
-    ap (λ (texts : List Text). posted_over before posts (seat + 1) conns (posted_to before texts row s))
-    (taken_frames seats seat whole row all empty here)
-    ∙ over_done before seats all whole (seat + 1) conns (posted_to before (wanted_by row.held.subs all) row s) empty
+    ap (λ (texts : List Text). posted_over before posts (seat + 1) conns (posted_to before texts row s)) (wanted seat row here)
+    ∙ over_done before posts all whole (seat + 1) conns (posted_to before (wanted_by row.held.subs all) row s) wanted
     (λ k. ap (held_in whole) (omega arith) ∙ same (suc k))
     ∙ ap (λ (gifts : List Gift). record s { posted = (s.posted ++ gifts) ++ gifts_over before s.conns all conns; losses = losses })
     (gifts_posts row.number texts)
@@ -547,6 +574,8 @@ all_posted seats before s empty =
     let losses : losses_over before s.conns (told before s) conns s.losses ≡ losses_from before s conns s.losses =
     losses_told before s.conns (is_wanted conns) (tellings before s) conns s.losses (each_told conns)
     ∙ from_losses before s conns s.losses in
-    over_done before seats (told before s) conns 0 conns (record s { posted = [] }) empty (λ k. ap (held_in conns) (omega arith))
+    over_done before (posts_told seats before s) (told before s) conns 0 conns (record s { posted = [] })
+    (λ k row held. taken_frames seats k conns row (s.counts.all + 1) (tellings before s) empty held)
+    (λ k. ap (held_in conns) (omega arith))
     ∙ ap (λ (gifts : List Gift). record s { posted = gifts; losses = losses_over before s.conns (told before s) conns s.losses }) gifts
     ∙ ap (λ (losses : Losses). record s { posted = posts_from before s conns; losses = losses }) losses

@@ -1,5 +1,5 @@
 -- What a draft changes of a switch.
-use Rattle.std.specs.Prelude.{◌≡◌, ℕ, Option, None, Result, unwrap_or, OnOk, []}
+use Rattle.std.specs.Prelude.{◌≡◌, ℕ, Option, None, Result, unwrap_or, OnOk, [], length}
 use Rattle.fs_bridge.specs.Bridges.{BridgeRows}
 use Rattle.fs_chan.specs.declared.chan.Chan.{Chan}
 use Rattle.fs_seats.specs.Sheets.{written}
@@ -8,6 +8,7 @@ use Rattle.fs_state.specs.declared.delta.Delta.{Delta}
 use Rattle.fs_state.specs.declared.delta.OutboxChange.TheVariants.{Unchanged}
 use Rattle.fs_state.specs.Losses.{Losses}
 use Rattle.fs_state.specs.Outboxes.{outboxes_after, all_of, HaveRoom, frames_given}
+use Rattle.fs_state.specs.Waiting.{no_posts, gifts_of_posts, AreNumbered}
 use Rattle.fs_state.specs.Switch.{Switch, chan_at, with_chan}
 
 -- the switch with all of these changes
@@ -26,7 +27,7 @@ after s d = record s {
   losses = unwrap_or d.losses s.losses;
   news = d.news;
   replies = d.replies;
-  posted = d.posted;
+  posted = gifts_of_posts d.posted;
   late = d.late;
   notices = d.notices;
 }
@@ -47,9 +48,10 @@ IsBlank d = d ≡ record {
   losses = None;
   news = [];
   replies = [];
-  posted = [];
+  posted = no_posts;
   late = [];
   notices = [];
+  text = d.text;
 }
 
 -- what a change still has once it was made: what happens, and what is given
@@ -98,6 +100,11 @@ with_losses_in d losses = record (drafted d) { losses = losses }
 abbrev pub chan_taken_back : Drafted → ℕ → Option Chan
 chan_taken_back d slot = taken_back (record { kept = d.base.channels; sheet = d.delta.channels }) slot
 
--- what is given has room in the outboxes
+-- what is given has room in the outboxes, and the events that are posted are numbered by how many there were
 pub record Fits (s : Switch) (d : Delta) : Type 0 where
   pub room : HaveRoom (outboxes_after d.outbox s.outboxes) (frames_given (all_of d))
+  pub numbers : AreNumbered s.counts.all (length d.news) d.posted.events
+
+-- how many events are posted
+abbrev pub events_posted : Delta → ℕ
+events_posted d = length d.posted.events

@@ -7,7 +7,7 @@ use Rattle.fs_state.specs.declared.conn.Conn.{Conn}
 use Rattle.fs_state.specs.declared.conn.Phase.{Phase}
 use Rattle.fs_state.specs.declared.conn.Phase.TheVariants.{Fresh, Ready, Ending, Closed}
 use Rattle.fs_state.specs.declared.conn.Parting.TheVariants.{Stopped}
-use Rattle.fs_state.specs.declared.gift.Gift.{Gift}
+use Rattle.fs_state.specs.Frames.{Gift}
 use Rattle.fs_state.specs.Switch.{Switch, gift_of, with_conn_at, without_jobs, without_origs, stopped}
 
 -- ---- one connection

@@ -1,12 +1,21 @@
 -- Frames that go out to a connection.
 use Rattle.std.specs.Prelude.{ℕ, Bool, true, false, List, map, count_by}
 use Rattle.fs_text.specs.Texts.{Text}
-use Rattle.fs_state.specs.declared.outgoing.Outgoing.{Outgoing}
-use Rattle.fs_state.specs.declared.outgoing.Outgoing.TheVariants.{Reply, Event}
+
+-- A frame that goes out to a connection: a reply, a notice, or another frame that is never lost; or an event, which is lost where too many
+-- wait.
+pub data Outgoing : Type 0 where
+  Reply : Text → Outgoing
+  Event : Text → Outgoing
 
 -- frames that go out to a connection, in order
 abbrev pub Frames : Type 0
 Frames = List Outgoing
+
+-- frames that an entry gives to the connection of a number
+pub record Gift : Type 0 where
+  pub conn : ℕ
+  pub frames : Frames
 
 -- the text of a frame
 abbrev pub text_of : Outgoing → Text

@@ -2,6 +2,9 @@ pub mod Drawn
 pub mod Counts
 pub mod Losses
 pub mod Frames
+pub mod Waiting
+pub mod Posted
+pub mod Mail
 pub mod Outboxes
 pub mod Switch
 pub mod Drafts

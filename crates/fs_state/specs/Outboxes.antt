@@ -2,19 +2,24 @@
 use Rattle.std.specs.Prelude.{ℕ, ◌+◌, ◌<◌, ◌≤◌, ◌^◌, List, [], ◌∷◌, ◌++◌, length, drop, replicate}
 use Rattle.std.specs.Prelude.{sum_by, get_or, Option, None, Some}
 use Rattle.std.specs.List.{slice_get, slice_set, All}
+use Rattle.fs_event.specs.Rings.{no_events}
 use Rattle.fs_seats.specs.declared.numbered.Numbered.{Numbered}
 use Rattle.fs_seats.specs.Rows.{seat_of}
 use Rattle.fs_state.specs.declared.conn.Conn.{Conn}
-use Rattle.fs_state.specs.declared.gift.Gift.{Gift}
 use Rattle.fs_state.specs.declared.delta.Delta.{Delta}
 use Rattle.fs_state.specs.declared.delta.OutboxChange.{OutboxChange}
 use Rattle.fs_state.specs.declared.delta.OutboxChange.TheVariants.{Unchanged, Taken, Cleared}
-use Rattle.fs_state.specs.declared.outgoing.Outgoing.{Outgoing}
+use Rattle.fs_state.specs.Frames.{Outgoing, Gift}
+use Rattle.fs_state.specs.Waiting.{Waits, gifts_of_posts}
 pub use Rattle.fs_state.specs.Frames.{Frames, text_of, texts_of, is_event, events_in}
 
 -- so many outboxes in which nothing waits
 unfoldable pub no_outboxes : ℕ → List Frames
 no_outboxes count = replicate count []
+
+-- so many, and no event
+abbrev pub nothing_waits : ℕ → Waits
+nothing_waits count = record { frames = no_outboxes count; ring = no_events }
 
 -- what waits at a seat
 abbrev pub outbox_at : List Frames → ℕ → Frames
@@ -64,16 +69,16 @@ delivered conns (gift ∷ gifts) outboxes = delivered conns gifts (with_gift_del
 
 -- all that a change gives, in order
 abbrev pub all_of : Delta → List Gift
-all_of d = d.replies ++ (d.posted ++ (d.late ++ d.notices))
+all_of d = d.replies ++ (gifts_of_posts d.posted ++ (d.late ++ d.notices))
 
 -- how many frames are given
 abbrev pub frames_given : List Gift → ℕ
 frames_given gifts = sum_by (λ gift. length gift.frames) gifts
 
 -- each outbox may grow by so many frames, as far as lengths go
-pub record HaveRoom (outboxes : List Frames) (count : ℕ) : Type 0 where
+pub record HaveRoom {T : Type 0} (outboxes : List (List T)) (count : ℕ) : Type 0 where
   pub each : All (λ outbox. length outbox + count < 2 ^ 63) outboxes
 
 -- no outbox has more frames than so many
-pub record AreWithin (outboxes : List Frames) (most : ℕ) : Type 0 where
+pub record AreWithin {T : Type 0} (outboxes : List (List T)) (most : ℕ) : Type 0 where
   pub each : All (λ outbox. length outbox ≤ most) outboxes

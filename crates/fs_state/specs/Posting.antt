@@ -31,13 +31,17 @@ use Rattle.fs_state.specs.declared.event.Detail.{Detail}
 use Rattle.fs_state.specs.declared.event.Detail.TheVariants as detail
 use Rattle.fs_state.specs.declared.event.QueueAction.{QueueAction}
 use Rattle.fs_state.specs.declared.event.QueueAction.TheVariants as action
-use Rattle.fs_state.specs.declared.gift.Gift.{Gift}
+use Rattle.fs_state.specs.Frames.{Gift}
 use Rattle.fs_state.specs.declared.job.Background.{Background}
-use Rattle.fs_state.specs.declared.outgoing.Outgoing.TheVariants as outgoing
+use Rattle.fs_state.specs.Frames as outgoing
+use Rattle.fs_state.specs.declared.gift.Given.{Given}
+use Rattle.fs_state.specs.declared.outbox.Waiting.TheVariants as waiting
 use Rattle.fs_state.specs.declared.post.Post.{Post}
 use Rattle.fs_state.specs.Losses.{Losses, with_loss}
 use Rattle.fs_state.specs.Outboxes.{Frames, events_in}
+use Rattle.fs_state.specs.Posted.{events_of}
 use Rattle.fs_state.specs.Switch.{Switch, chan_at, outgoing_for}
+use Rattle.fs_state.specs.Waiting.{Outbox, gifts_in}
 
 -- ---- the whole of an event: before the entry the switch stands as in the first argument, and behind it as in the second
 
@@ -291,17 +295,21 @@ abbrev pub told_of : Switch → Switch → ℕ → Event → Option Telling
 told_of before s number event =
     if is_wanted before.conns (telling_of before s number event) then Some (telling_of before s number event) else None
 
--- what the events of an entry tell that some connection wants
-abbrev pub told : Switch → Switch → List Telling
-told before s = filter (is_wanted before.conns) (tellings before s)
+-- the event of a number, with who of the connections at the first seats wants it; none is to read it yet
+abbrev pub post_of : List (Option (Numbered Conn)) → ℕ → Telling → Post
+post_of front number telling =
+    record { number = number; frame = frame telling; takers = map (wants_at telling) front; readers = 0 }
 
--- the frame of an event, with who of the connections at the first seats wants it
-abbrev pub post_of : List (Option (Numbered Conn)) → Telling → Post
-post_of front telling = record { frame = frame telling; takers = map (wants_at telling) front }
+-- so of those of these that some connection wants, where the first of these has this number
+abbrev pub posts_numbered : ℕ → List (Option (Numbered Conn)) → ℕ → List Telling → List Post
+posts_numbered seats conns number [] = []
+posts_numbered seats conns number (telling ∷ all) =
+    if is_wanted conns telling then post_of (take seats conns) number telling ∷ posts_numbered seats conns (number + 1) all
+    else posts_numbered seats conns (number + 1) all
 
--- so of the events that some connection wants
+-- so of the events of an entry: they are numbered by how many there were before
 abbrev pub posts_told : ℕ → Switch → Switch → List Post
-posts_told seats before s = map (post_of (take seats before.conns)) (told before s)
+posts_told seats before s = posts_numbered seats before.conns (s.counts.all + 1) (tellings before s)
 
 -- the connection at a seat wants it
 abbrev pub is_taken : ℕ → Post → Bool
@@ -311,6 +319,10 @@ is_taken seat post = get_or post.takers seat false
 abbrev pub frames_at : ℕ → List Post → List Text
 frames_at seat posts = map (λ (post : Post). post.frame) (filter (is_taken seat) posts)
 
+-- the numbers of their events
+abbrev pub numbers_at : ℕ → List Post → List ℕ
+numbers_at seat posts = map (λ (post : Post). post.number) (filter (is_taken seat) posts)
+
 -- for so many events there is room behind the frames that wait for a connection
 abbrev pub room_for : Switch → ℕ → ℕ
 room_for before conn = room_behind (outgoing_for before conn)
@@ -319,10 +331,19 @@ room_for before conn = room_behind (outgoing_for before conn)
 abbrev pub frames_within : ℕ → List Text → Frames
 frames_within room texts = map outgoing.Event (take room texts)
 
+-- as many numbers of events
+abbrev pub numbers_within : ℕ → List ℕ → Outbox
+numbers_within room numbers = map waiting.Event (take room numbers)
+
 -- frames for a connection, if there are any
 abbrev pub gifts_of : ℕ → Frames → List Gift
 gifts_of conn [] = []
 gifts_of conn (frame ∷ frames) = record { conn = conn; frames = frame ∷ frames } ∷ []
+
+-- numbers of events for a connection, if there are any
+abbrev pub lists_of : ℕ → Outbox → List Given
+lists_of conn [] = []
+lists_of conn (first ∷ outbox) = record { conn = conn; waiting = first ∷ outbox } ∷ []
 
 -- they are posted
 abbrev pub with_post : ℕ → Frames → Switch → Switch
@@ -352,3 +373,7 @@ abbrev pub posted_over : Switch → List Post → ℕ → List (Option (Numbered
 posted_over before posts seat [] s = s
 posted_over before posts seat (held ∷ conns) s =
     posted_over before posts (seat + 1) conns (posted_at before posts seat held s)
+
+-- these lists of numbers are posted, where these are the events
+abbrev pub with_lists : List Post → List Given → Switch → Switch
+with_lists posts lists s = record s { posted = gifts_in (events_of posts) lists }

@@ -8,6 +8,7 @@ use Rattle.fs_vars.specs.Variables.{Variables}
 use Rattle.fs_doc.specs.declared.settings.Settings.{Settings}
 use Rattle.fs_doc.specs.Dialplans.{Context}
 use Rattle.fs_doc.specs.Reading.{Configuration}
+use Rattle.fs_event.specs.Rings.{Events}
 use Rattle.fs_chan.specs.declared.chan.Chan.{Chan}
 use Rattle.fs_chan.specs.Changes.{is_live}
 use Rattle.fs_bridge.specs.declared.row.Row.{Row}
@@ -20,12 +21,11 @@ use Rattle.fs_seats.specs.Rows.{seat_of, row_of, with_row, without_row, with_new
 use Rattle.fs_state.specs.declared.conn.Conn.{Conn}
 use Rattle.fs_state.specs.declared.drawn.Drawn.{Drawn}
 use Rattle.fs_state.specs.declared.event.Event.{Event}
-use Rattle.fs_state.specs.declared.gift.Gift.{Gift}
 use Rattle.fs_state.specs.declared.job.Job.{Job}
 use Rattle.fs_state.specs.Drawn as numbers
 use Rattle.fs_state.specs.Drawn.{none_drawn}
 use Rattle.fs_state.specs.Counts.{Tallies, no_tallies, with_events_counted}
-use Rattle.fs_state.specs.declared.outgoing.Outgoing.TheVariants.{Reply}
+use Rattle.fs_state.specs.Frames.{Gift, Reply}
 use Rattle.fs_state.specs.Losses.{Losses, no_losses}
 use Rattle.fs_state.specs.Outboxes.{Frames, texts_of, no_outboxes, outbox_at, without_first_frame, without_frames, delivered}
 
@@ -60,6 +60,12 @@ pub record Switch : Type 0 where
   pub posted : List Gift
   pub late : List Gift
   pub notices : List Gift
+
+-- A switch as it is kept: the events that wait for connections are held in a ring, each once, with its number and how many are still to
+-- read it.
+pub record Kept : Type 0 where
+  pub switch : Switch
+  pub ring : Events Text
 
 -- a switch to which nothing has happened
 abbrev pub empty : Configuration → Switch

@@ -6,6 +6,8 @@ use crate::delta::{Delta, OutboxChange};
 use crate::drawn::Drawn;
 use crate::event::Events;
 use crate::gift::Gifts;
+use crate::posts::Posts;
+use fs_event::EventText;
 use fs_seats::{Boxed, Sheet};
 use fs_text::Memory;
 use std::alloc::Global;
@@ -69,8 +71,9 @@ fn unchanged(alloc: Global) -> Delta
         losses: None,
         news: Events::new(alloc),
         replies: Gifts::new(alloc),
-        posted: Gifts::new(alloc),
+        posted: Posts::none(alloc),
         late: Gifts::new(alloc),
         notices: Gifts::new(alloc),
+        text: EventText::none(alloc),
     }
 }

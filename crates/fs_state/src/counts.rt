@@ -1,5 +1,5 @@
 //! How many events and hangups there were.
-ghost use Rattle.std.specs.Prelude.{◌≡◌, IfOk};
+ghost use Rattle.std.specs.Prelude.{◌≡◌, ◌≤◌, IfOk};
 ghost use Rattle.fs_state.specs.Counts as spec;
 ghost use Rattle.fs_text.specs.EventName.{event_number};
 ghost use Rattle.fs_text.specs.Cause.{cause_number};
@@ -66,7 +66,8 @@ impl Counts {
 
     /// One more event.
     pub fn count(&mut self, event: &Event)
-        ensures { self.new ≡ spec.with_event_counted event.now self.old }
+        ensures counted { self.new ≡ spec.with_event_counted event.now self.old }
+        ensures more { self.old.all ≤ self.new.all }
     {
         self.all = self.all.saturating_add(1);
         count_at(&mut self.events, event.name.number());
@@ -77,7 +78,8 @@ impl Counts {
 
     /// So many events more.
     pub fn count_all(&mut self, events: &[Event])
-        ensures { self.new ≡ spec.with_events_counted events.now self.old }
+        ensures counted { self.new ≡ spec.with_events_counted events.now self.old }
+        ensures more { self.old.all ≤ self.new.all }
     {
         for event in events {
             self.count(event);

@@ -5,8 +5,10 @@ use crate::event::Events;
 use crate::gift::Gifts;
 use crate::job::Job;
 use crate::losses::Losses;
+use crate::posts::Posts;
 use fs_bridge::Bridges;
 use fs_chan::Chan;
+use fs_event::EventText;
 use fs_orig::Orig;
 use fs_seats::{Boxed, Numbered, Sheet};
 use fs_vars::Vars;
@@ -51,11 +53,27 @@ pub struct Delta {
     /// The reply to its command, or what is sent first to a connection that comes.
     pub replies: Gifts,
     /// What it posts of its events.
-    pub posted: Gifts,
+    pub posted: Posts,
     /// Replies that were owed.
     pub late: Gifts,
     /// Notices to connections that are ending.
     pub notices: Gifts,
+    /// No change: where the texts of events are formed, kept for its room.
+    pub text: EventText,
+}
+
+impl Delta {
+    ghost use Rattle.std.specs.Prelude.{◌≡◌, ◌-◌, ◌^◌, min};
+    ghost use Rattle.fs_state.specs.Outboxes.{all_of, frames_given};
+
+    /// How many frames are given, as far as 64 bits go.
+    pub(crate) fn frames_given(&self) -> usize
+        ensures { result ≡ min (frames_given (all_of self.now)) (2 ^ 64 - 1) }
+    {
+        let behind = self.late.frames().saturating_add(self.notices.frames());
+        let posted = self.posted.frames().saturating_add(behind);
+        self.replies.frames().saturating_add(posted)
+    }
 }
 
 impl Drop for Delta {
@@ -77,6 +95,7 @@ impl Drop for Delta {
             posted: _posted,
             late: _late,
             notices: _notices,
+            text: _text,
         } = self;
     }
 }

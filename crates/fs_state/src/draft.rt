@@ -12,7 +12,7 @@ ghost use Rattle.fs_bridge.specs.Bridges.{BridgeRows, has_number_left};
 ghost use Rattle.fs_state.specs.Drafts.{Brings, after, drafted, chan_in, with_chan_in, chan_taken_back};
 ghost use Rattle.std.specs.Prelude.{◌-◌, ◌^◌, ◌<◌, min};
 ghost use Rattle.fs_state.specs.Drafts.{with_bridges_in, Fits};
-ghost use Rattle.fs_state.specs.Outboxes.{frames_given};
+ghost use Rattle.fs_state.specs.Waiting.{AreNumbered};
 
 use crate::blank::Blank;
 use crate::conn::Conn;
@@ -21,7 +21,6 @@ use crate::drawn::Drawn;
 use crate::event::Event;
 use crate::job::Job;
 use crate::losses::Losses;
-use crate::outgoing::Outgoing;
 use crate::switch::Core;
 use fs_bridge::{BridgeKind, Bridges, Row};
 use fs_chan::Chan;
@@ -48,16 +47,16 @@ impl<'a> Model for Draft<'a> {
 
     ghost Value = { Drafted };
 
-    ghost view = { λ d. record { base = d.core.now; delta = d.delta } };
+    ghost view = { λ d. record { base = d.core.now.switch; delta = d.delta } };
 
-    ghost invariant = { λ d. length d.core.now.channels < 2 ^ 16 };
+    ghost invariant = { λ d. length d.core.now.switch.channels < 2 ^ 16 };
 }
 
 impl<'a> Draft<'a> {
     /// A switch of which nothing is to change. What is to change is noted on a blank.
     pub fn new(core: &'a Core, blank: Blank) -> Draft<'a>
-        ensures base { result.base ≡ core.entry.now }
-        ensures drafted { drafted result ≡ core.entry.now }
+        ensures base { result.base ≡ core.entry.now.switch }
+        ensures drafted { drafted result ≡ core.entry.now.switch }
         ensures outbox { result.delta.outbox ≡ change.Unchanged }
     {
         let mut delta = blank.into_delta();
@@ -634,7 +633,7 @@ impl<'a> Draft<'a> {
     {
         let core = self.core;
         let seat = self.conns().seat_of(u64::from(number))?;
-        Some(core.outboxes.first(seat)?.text())
+        core.outboxes.first(seat)
     }
 
     /// The frame that waits first for the connection of a number is taken, if there is one.
@@ -662,26 +661,28 @@ impl<'a> Draft<'a> {
 
     // ---- the end
 
-    /// What is to change. It is refused, as for want of memory, where outboxes might come to have 2^63 frames.
+    /// What is to change. It is refused, as for want of memory, where outboxes might come to have 2^63 frames, or the
+    /// numbers of events are not those that follow.
     #[tactic(auto, using(crate::proofs::OutboxLemmas::room_counted, crate::proofs::OutboxLemmas::room_after))]
     pub fn finish(self) -> Result<Boxed<Delta>, Memory>
         ensures delta { IfOk result (λ delta. after self.entry.base delta ≡ drafted self.entry) }
         ensures fits { IfOk result (λ delta. Fits self.entry.base delta) }
     {
         let core = self.core;
-        if !core.outboxes.have_room(self.frames_given()) {
+        if !core.outboxes.have_room(self.delta.frames_given()) || !self.has_numbers() {
             return Err(Memory);
         }
         Ok(self.delta)
     }
 
-    /// How many frames are given, as far as 64 bits go.
-    fn frames_given(&self) -> usize
-        ensures { result ≡ min (frames_given (spec.all_given (drafted self.now))) (2 ^ 64 - 1) }
+    /// Whether the events that are posted have numbers that follow upon those of all events before.
+    fn has_numbers(&self) -> bool
+        ensures { result ≡ true → AreNumbered self.now.base.counts.all (length self.now.delta.news)
+            self.now.delta.posted.events }
     {
+        let core = self.core;
         let delta = &self.delta;
-        let behind = delta.late.frames().saturating_add(delta.notices.frames());
-        let posted = delta.posted.frames().saturating_add(behind);
-        delta.replies.frames().saturating_add(posted)
+        let more = delta.news.as_slice().len();
+        delta.posted.are_behind(core.counts.all(), more)
     }
 }

@@ -2,43 +2,48 @@
 ghost use Rattle.std.specs.Prelude.{◌≡◌, ◌-◌, ◌^◌, min, [], ◌∷◌, ◌++◌, OnOk, OnErr};
 ghost use Rattle.fs_state.specs.Outboxes.{frames_given};
 ghost use Rattle.fs_state.specs.Switch.{gift_of};
+ghost use Rattle.fs_state.specs.Waiting as spec;
 
-use crate::outgoing::{Frames, Outgoing};
+use crate::outbox::{Outbox, Waiting};
 use fs_text::{Memory, Txt};
 use std::alloc::Global;
 use std::marker::Model;
 
-/// Frames that an entry gives to a connection.
+/// What an entry gives to a connection.
 #[derive(Drop)]
-pub struct Gift {
+pub struct Given {
     /// The number of the connection.
     pub conn: u64,
-    /// The frames, in order.
-    pub frames: Frames,
+    /// What is to wait for it, in order.
+    pub waiting: Outbox,
 }
 
-impl Gift {
-    /// Takes its frames out.
-    pub(crate) fn take_frames(&mut self) -> Frames
-        ensures { result ≡ self.old.frames }
+impl Given {
+    /// Takes out what is to wait.
+    pub(crate) fn take_waiting(&mut self) -> Outbox
+        ensures { result ≡ self.old.waiting }
     {
-        self.frames.take_all()
+        self.waiting.take_all()
     }
 }
 
-/// What an entry gives, in order. A contract sees it as that list.
+/// The frames that an entry gives beside its events, in order. A contract sees them by their connections.
 #[derive(Drop)]
 pub struct Gifts {
-    pub(crate) gifts: Vec<Gift>,
+    pub(crate) gifts: Vec<Given>,
 }
 
 impl Model for Gifts {
-    ghost use Rattle.std.specs.Prelude.{List};
-    ghost use Rattle.fs_state.specs.declared.gift.Gift.{Gift};
+    ghost use Rattle.std.specs.Prelude.{[], List};
+    ghost use Rattle.fs_state.specs.Frames.{Gift};
 
     ghost Value = { List Gift };
 
-    ghost view = { λ g. g.gifts.items };
+    ghost use Rattle.fs_state.specs.Waiting.{gifts_in, AreReplies};
+
+    ghost view = { λ g. gifts_in [] g.gifts.items };
+
+    ghost invariant = { λ g. AreReplies g.gifts.items };
 }
 
 impl Gifts {
@@ -64,25 +69,10 @@ impl Gifts {
         ensures ok { OnOk result (self.new ≡ self.old ++ gift_of conn text ∷ []) }
         ensures err { OnErr result (self.new ≡ self.old) }
     {
-        let mut frames = Frames::new(*self.gifts.allocator());
-        frames.push(Outgoing::Reply(text))?;
-        self.add(Gift { conn, frames })
-    }
-
-    /// So is this.
-    pub fn add(&mut self, gift: Gift) -> Result<(), Memory>
-        ensures ok { OnOk result (self.new ≡ self.old ++ gift ∷ []) }
-        ensures err { OnErr result (self.new ≡ self.old) }
-    {
-        self.gifts.push(gift)?;
+        let mut waiting = Outbox::new(*self.gifts.allocator());
+        waiting.push(Waiting::Reply(text))?;
+        self.gifts.push(Given { conn, waiting })?;
         Ok(())
-    }
-
-    /// Nothing is given.
-    pub(crate) fn clear(&mut self)
-        ensures { self.new ≡ [] }
-    {
-        self.gifts.clear();
     }
 
     /// How many frames are given, as far as 64 bits go.
@@ -93,13 +83,13 @@ impl Gifts {
     }
 }
 
-/// How many frames these gifts have, as far as 64 bits go.
-fn frames_of(gifts: &[Gift]) -> usize
-    ensures { result ≡ min (frames_given gifts.now) (2 ^ 64 - 1) }
+/// How many frames are given, as far as 64 bits go.
+pub(crate) fn frames_of(all: &[Given]) -> usize
+    ensures { result ≡ min (spec.waiting_given all.now) (2 ^ 64 - 1) }
 {
     let mut count: usize = 0;
-    for gift in gifts {
-        count = count.saturating_add(gift.frames.len());
+    for given in all {
+        count = count.saturating_add(given.waiting.len());
     }
     count
 }

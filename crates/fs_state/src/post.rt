@@ -1,24 +1,32 @@
-//! The frame of an event, and who takes it.
+//! An event as it is told, and who takes it.
 ghost use Rattle.std.specs.Prelude.{◌≡◌, ◌∷◌, ◌++◌, [], false, get_or, OnOk};
 ghost use Rattle.std.specs.List.{list_any};
 
 use fs_text::{Memory, Txt};
+use smallvec::SmallVec;
 use std::alloc::Global;
 use std::marker::Model;
 
-/// The frame of an event, and which connections it is to be sent.
+/// An event with its frame, and which connections want it.
 #[derive(Drop)]
 pub(crate) struct Post {
+    /// The number of the event.
+    pub number: u64,
     /// The frame.
     pub frame: Txt,
     /// The connections that want the event.
     pub takers: Takers,
+    /// How many are to read it: those of them for which it was put down.
+    pub readers: u32,
 }
+
+/// Connections at so many seats are noted without memory.
+const SEATS: usize = 16;
 
 /// Which connections want an event, by their seats. A contract sees for each seat whether the one there does.
 #[derive(Drop)]
 pub(crate) struct Takers {
-    seats: Vec<bool>,
+    seats: SmallVec<bool, SEATS>,
 }
 
 impl Model for Takers {
@@ -35,7 +43,7 @@ impl Takers {
         ensures { result ≡ [] }
     {
         Takers {
-            seats: Vec::new(alloc),
+            seats: SmallVec::new(alloc),
         }
     }
 
@@ -51,13 +59,13 @@ impl Takers {
     pub fn has(&self, seat: usize) -> bool
         ensures { result ≡ get_or self.now seat false }
     {
-        self.seats.get(seat).copied().unwrap_or(false)
+        self.seats.as_slice().get(seat).copied().unwrap_or(false)
     }
 
     /// Whether some connection wants it.
     pub fn has_one(&self) -> bool
         ensures { result ≡ list_any (λ wants. wants) self.now }
     {
-        self.seats.iter().any(|wants| *wants)
+        self.seats.as_slice().iter().any(|wants| *wants)
     }
 }

@@ -24,13 +24,13 @@ impl<'a> Model for Seen<'a> {
 
     ghost Value = { Switch };
 
-    ghost view = { λ s. record s.core.now { moment = s.moment } };
+    ghost view = { λ s. record s.core.now.switch { moment = s.moment } };
 }
 
 impl<'a> Seen<'a> {
     /// A switch as it stands at a moment; one before the last entry's counts as that one.
     pub fn of(core: &'a Core, now: u64) -> Seen<'a>
-        ensures { result ≡ spec.at_moment now core.entry.now }
+        ensures { result ≡ spec.at_moment now core.entry.now.switch }
     {
         let moment = core.moment.max(now);
         Seen { core, moment }

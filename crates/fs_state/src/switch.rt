@@ -1,11 +1,13 @@
 //! The state of a switch between two entries.
 ghost use Rattle.std.specs.Arc.{arc_value};
-ghost use Rattle.std.specs.Prelude.{◌≡◌, ◌≤◌, false, length, IfOk, unwrap_or};
+ghost use Rattle.std.specs.Prelude.{◌≡◌, ◌≤◌, ◌+◌, false, length, IfOk, OnOk, OnErr, unwrap_or};
 ghost use Rattle.std.specs.Option.{option_copied};
 ghost use Rattle.fs_seats.specs.Seats.{no_seats, IsEmptyFrom};
-ghost use Rattle.fs_state.specs.Outboxes.{no_outboxes, outboxes_after};
+ghost use Rattle.fs_event.specs.Rings.{no_events};
+ghost use Rattle.fs_state.specs.Outboxes.{nothing_waits};
 ghost use Rattle.fs_state.specs.Switch as spec;
-ghost use Rattle.fs_state.specs.Drafts.{after, rest_of, Fits};
+ghost use Rattle.fs_state.specs.Drafts.{after, rest_of, Fits, events_posted};
+ghost use Rattle.fs_state.specs.Waiting.{gifts_of_posts, AreHeld, AreNoMore};
 
 use crate::blank::Blank;
 use crate::conn::Conn;
@@ -18,9 +20,10 @@ use crate::outboxes::Outboxes;
 use fs_bridge::Bridges;
 use fs_chan::Chan;
 use fs_doc::{Config, Settings};
+use fs_event::Ring;
 use fs_orig::Orig;
 use fs_seats::{Boxed, Numbered, Overlay, Rows, Seats, Table};
-use fs_text::Memory;
+use fs_text::{Memory, Txt};
 use fs_vars::Vars;
 use std::alloc::Global;
 use std::marker::Model;
@@ -33,7 +36,8 @@ const JOBS: usize = 1_024;
 /// What the largest entry costs.
 const LARGEST_COST: u64 = 65_600;
 
-/// The state of a switch between two entries. A contract sees it as the record of what is there.
+/// The state of a switch between two entries. A contract sees it as the record of what is there, and beside that the ring
+/// of the events that wait for connections.
 pub struct Core {
     pub(crate) alloc: Global,
     pub(crate) config: Arc<Config>,
@@ -78,43 +82,47 @@ impl Drop for Core {
 
 impl Model for Core {
     ghost use Rattle.std.specs.Arc.{arc_value};
-    ghost use Rattle.std.specs.Prelude.{◌<◌, ◌^◌, [], length};
-    ghost use Rattle.fs_state.specs.Switch.{Switch};
+    ghost use Rattle.std.specs.Prelude.{◌+◌, ◌<◌, ◌^◌, [], length};
+    ghost use Rattle.fs_event.specs.Rings.{AreBelow};
+    ghost use Rattle.fs_state.specs.Switch.{Kept};
 
-    ghost Value = { Switch };
+    ghost Value = { Kept };
 
     ghost view = { λ c. record {
-      settings = (arc_value c.config).settings;
-      contexts = (arc_value c.config).contexts;
-      globals = c.globals;
-      channels = c.channels;
-      bridges = c.bridges;
-      origs = c.origs;
-      jobs = c.jobs;
-      conns = c.conns;
-      outboxes = c.outboxes;
-      drawn = c.drawn;
-      moment = c.moment;
-      entries = c.entries;
-      cost = c.cost;
-      stopping = c.stopping;
-      counts = c.counts;
-      losses = c.losses;
-      news = [];
-      replies = [];
-      posted = [];
-      late = [];
-      notices = [];
+      switch = record {
+        settings = (arc_value c.config).settings;
+        contexts = (arc_value c.config).contexts;
+        globals = c.globals;
+        channels = c.channels;
+        bridges = c.bridges;
+        origs = c.origs;
+        jobs = c.jobs;
+        conns = c.conns;
+        outboxes = c.outboxes.frames;
+        drawn = c.drawn;
+        moment = c.moment;
+        entries = c.entries;
+        cost = c.cost;
+        stopping = c.stopping;
+        counts = c.counts;
+        losses = c.losses;
+        news = [];
+        replies = [];
+        posted = [];
+        late = [];
+        notices = [];
+      };
+      ring = c.outboxes.ring;
     } };
 
-    ghost invariant = { λ c. length c.channels < 2 ^ 16 };
+    ghost invariant = { λ c. (length c.channels < 2 ^ 16) × AreBelow (c.counts.all + 1) c.outboxes.ring.pairs };
 }
 
 impl Core {
     /// A switch to which nothing has happened.
     #[tactic(auto, using(crate::proofs::SlotLemmas::no_seats_length))]
     pub fn new(alloc: Global, config: Arc<Config>) -> Result<Core, Memory>
-        ensures { IfOk result (λ core. core ≡ spec.empty (arc_value config)) }
+        ensures { IfOk result (λ core. core ≡ record { switch = spec.empty (arc_value config); ring = no_events }) }
     {
         config.within();
         let settings = config.settings();
@@ -144,11 +152,42 @@ impl Core {
         })
     }
 
+    /// Sets room aside for the events that an entry posts. Nothing else changes.
+    pub fn make_room(&mut self, delta: &Delta) -> Result<(), Memory>
+        ensures room { OnOk result (events_posted delta.now ≤ self.new.ring.spare) }
+        ensures same { OnOk result
+            (self.new ≡ record self.old { ring = record self.old.ring { spare = self.new.ring.spare } }) }
+        ensures err { OnErr result (self.new ≡ self.old) }
+    {
+        let Ok(more) = u32::try_from(delta.posted.count()) else {
+            return Err(Memory);
+        };
+        self.outboxes.make_room(more)
+    }
+
+    /// For how many more events room is set aside.
+    pub fn spare(&self) -> u64
+        ensures { result ≡ self.now.ring.spare }
+    {
+        self.outboxes.spare()
+    }
+
+    /// The events that wait for connections, each once, with how many are still to read it. What waits is replies and
+    /// numbers of these events; with their texts it comes to the outboxes, and no other event is held.
+    pub fn ring(&self) -> &Ring<Txt>
+        ensures ring { result.now ≡ self.now.ring }
+        ensures held { AreHeld self.now.switch.outboxes self.now.ring.pairs }
+    {
+        self.outboxes.ring()
+    }
+
     /// Does what an entry changes, at its cost. It takes no memory, and leaves a blank for the next draft.
     #[tactic(auto, using(fs_seats::proofs::SeatLemmas::written_length))]
     pub fn apply(&mut self, mut delta: Boxed<Delta>, cost: u64) -> Blank
-        requires { Fits self.old delta }
-        ensures { self.new ≡ spec.after_entry cost (after self.old delta) }
+        requires fits { Fits self.old.switch delta }
+        requires room { events_posted delta ≤ self.old.ring.spare }
+        ensures switch { self.new.switch ≡ spec.after_entry cost (after self.old.switch delta) }
+        ensures spare { self.old.ring.spare ≤ self.new.ring.spare + events_posted delta }
     {
         self.take(&mut delta);
         self.outboxes.deliver(&self.conns, &mut delta);
@@ -166,29 +205,29 @@ impl Core {
 
     /// The settings of the switch.
     pub fn settings(&self) -> &Settings
-        ensures { result.now ≡ self.now.settings }
+        ensures { result.now ≡ self.now.switch.settings }
     {
         self.config.settings()
     }
 
     /// The moment of the last entry, in microseconds.
     pub fn moment(&self) -> u64
-        ensures { result ≡ self.now.moment }
+        ensures { result ≡ self.now.switch.moment }
     {
         self.moment
     }
 
     /// What its entries so far cost.
     pub fn cost(&self) -> u64
-        ensures { result ≡ self.now.cost }
+        ensures { result ≡ self.now.switch.cost }
     {
         self.cost
     }
 
     /// Whether its journal is full: the largest entry, of 65,600, would pass the limit.
     pub fn is_full(&self) -> bool
-        ensures exact { result ≡ spec.is_full self.now }
-        ensures free { result ≡ false → spec.HasRoomWithin self.now.settings.journal_limit self.now }
+        ensures exact { result ≡ spec.is_full self.now.switch }
+        ensures free { result ≡ false → spec.HasRoomWithin self.now.switch.settings.journal_limit self.now.switch }
     {
         let limit = self.settings().journal_limit;
         limit < LARGEST_COST || self.cost > limit - LARGEST_COST
@@ -196,28 +235,28 @@ impl Core {
 
     /// The place of the entry by which it came to its end, once one did.
     pub fn stopping(&self) -> Option<u64>
-        ensures { result ≡ self.now.stopping }
+        ensures { result ≡ self.now.switch.stopping }
     {
         self.stopping
     }
 
     /// How many slots there are, with slot 0.
     pub fn slots(&self) -> u16
-        ensures { result ≡ length self.now.channels }
+        ensures { result ≡ length self.now.switch.channels }
     {
         self.channels.len() as u16
     }
 
     /// The channel in a slot.
     pub fn chan(&self, slot: u16) -> Option<&Chan>
-        ensures { option_copied result ≡ spec.chan_at self.now slot }
+        ensures { option_copied result ≡ spec.chan_at self.now.switch slot }
     {
         Some(self.channels.get(usize::from(slot))?)
     }
 
     /// The channel in a slot once these changes are made.
     pub fn chan_after<'a>(&'a self, delta: &'a Delta, slot: u16) -> Option<&'a Chan>
-        ensures { option_copied result ≡ spec.chan_at (after self.now delta.now) slot }
+        ensures { option_copied result ≡ spec.chan_at (after self.now.switch delta.now) slot }
     {
         let channels = Overlay::of(&self.channels, &delta.channels);
         Some(channels.lend(usize::from(slot))?)
@@ -225,14 +264,14 @@ impl Core {
 
     /// The variables of the whole switch.
     pub fn globals(&self) -> &Vars
-        ensures { result.now ≡ self.now.globals }
+        ensures { result.now ≡ self.now.switch.globals }
     {
         &self.globals
     }
 
     /// The variables of the whole switch once these changes are made.
     pub fn globals_after<'a>(&'a self, delta: &'a Delta) -> &'a Vars
-        ensures { result.now ≡ (after self.now delta.now).globals }
+        ensures { result.now ≡ (after self.now.switch delta.now).globals }
     {
         match &delta.globals {
             Some(globals) => globals,
@@ -242,65 +281,65 @@ impl Core {
 
     /// How many slots are filled, at most: from this one on there is no channel.
     pub fn filled_slots(&self) -> u16
-        ensures within { result ≤ length self.now.channels }
-        ensures empty { IsEmptyFrom result self.now.channels }
+        ensures within { result ≤ length self.now.switch.channels }
+        ensures empty { IsEmptyFrom result self.now.switch.channels }
     {
         self.channels.filled() as u16
     }
 
     /// The origination of a number.
     pub fn orig(&self, number: u64) -> Option<&Orig>
-        ensures { option_copied result ≡ spec.orig_of self.now number }
+        ensures { option_copied result ≡ spec.orig_of self.now.switch number }
     {
         self.origs.row(number)
     }
 
     /// The job of a number.
     pub fn job(&self, number: u64) -> Option<&Job>
-        ensures { option_copied result ≡ spec.job_of self.now number }
+        ensures { option_copied result ≡ spec.job_of self.now.switch number }
     {
         self.jobs.row(number)
     }
 
     /// What stands at a seat for a job; past the last one stands nothing.
     pub fn job_at(&self, seat: usize) -> Option<&Numbered<Job>>
-        ensures { option_copied result ≡ spec.job_at self.now seat }
+        ensures { option_copied result ≡ spec.job_at self.now.switch seat }
     {
         self.jobs.get(seat)
     }
 
     /// How many seats for jobs are filled, at most: from this one on there is no job.
     pub fn filled_jobs(&self) -> usize
-        ensures within { result ≤ length self.now.jobs }
-        ensures empty { IsEmptyFrom result self.now.jobs }
+        ensures within { result ≤ length self.now.switch.jobs }
+        ensures empty { IsEmptyFrom result self.now.switch.jobs }
     {
         self.jobs.filled()
     }
 
     /// How many connections there may be.
     pub fn conn_seats(&self) -> usize
-        ensures { result ≡ length self.now.conns }
+        ensures { result ≡ length self.now.switch.conns }
     {
         self.conns.len()
     }
 
     /// What stands at a seat for a connection; past the last one stands nothing.
     pub fn conn_at(&self, seat: usize) -> Option<&Numbered<Conn>>
-        ensures { option_copied result ≡ spec.conn_at self.now seat }
+        ensures { option_copied result ≡ spec.conn_at self.now.switch seat }
     {
         self.conns.get(seat)
     }
 
     /// The connection of a number.
     pub fn conn(&self, number: u32) -> Option<&Conn>
-        ensures { option_copied result ≡ spec.conn_of self.now number }
+        ensures { option_copied result ≡ spec.conn_of self.now.switch number }
     {
         self.conns.row(u64::from(number))
     }
 
     /// How many frames wait for the connection of a number.
     pub fn waiting(&self, number: u32) -> usize
-        ensures { result ≡ length (spec.waiting_for self.now number) }
+        ensures { result ≡ length (spec.waiting_for self.now.switch number) }
     {
         match self.conns.seat_of(u64::from(number)) {
             Some(seat) => self.outboxes.len(seat),
@@ -310,14 +349,14 @@ impl Core {
 
     /// How many events each connection did not get that it wanted.
     pub fn losses(&self) -> &Losses
-        ensures { result.now ≡ self.now.losses }
+        ensures { result.now ≡ self.now.switch.losses }
     {
         &self.losses
     }
 
     /// How many events there were of each name, and channels that were hung up with each cause.
     pub fn counts(&self) -> &Counts
-        ensures { result.now ≡ self.now.counts }
+        ensures { result.now ≡ self.now.switch.counts }
     {
         &self.counts
     }
@@ -325,66 +364,38 @@ impl Core {
     /// Makes the changes of what is there, without memory. What happens, and what is given, is left in them.
     #[tactic(auto, using(fs_seats::proofs::SeatLemmas::written_length))]
     fn take(&mut self, delta: &mut Delta)
-        ensures core { record self.new {
+        ensures core { record self.new.switch {
           news = delta.old.news;
           replies = delta.old.replies;
-          posted = delta.old.posted;
+          posted = gifts_of_posts delta.old.posted;
           late = delta.old.late;
           notices = delta.old.notices;
         }
-            ≡ after self.old delta.old }
+            ≡ after self.old.switch delta.old }
+        ensures ring { AreNoMore self.old.ring self.new.ring }
         ensures left { delta.new ≡ rest_of delta.old }
     {
-        self.take_globals(delta.globals.take());
+        put_in(&mut self.globals, delta.globals.take());
         delta.channels.move_into(&mut self.channels);
-        self.take_bridges(delta.bridges.take());
+        put_in(&mut self.bridges, delta.bridges.take());
         delta.origs.move_into(&mut self.origs);
         delta.jobs.move_into(&mut self.jobs);
         delta.conns.move_into(&mut self.conns);
-        self.change_outboxes(delta.outbox);
+        self.outboxes.change(delta.outbox);
         delta.outbox = OutboxChange::Unchanged;
         self.drawn = delta.drawn;
         self.moment = delta.moment;
         self.stopping = delta.stopping;
-        self.take_losses(delta.losses.take());
+        put_in(&mut self.losses, delta.losses.take());
     }
+}
 
-    /// Has other globals, where there are any.
-    fn take_globals(&mut self, globals: Option<Boxed<Vars>>)
-        ensures { self.new ≡ record self.old { globals = unwrap_or globals self.old.globals } }
-    {
-        if let Some(globals) = globals {
-            self.globals = globals;
-        }
-    }
-
-    /// Has other bridges, where there are any.
-    fn take_bridges(&mut self, bridges: Option<Bridges>)
-        ensures { self.new ≡ record self.old { bridges = unwrap_or bridges self.old.bridges } }
-    {
-        if let Some(bridges) = bridges {
-            self.bridges = bridges;
-        }
-    }
-
-    /// Has other losses, where there are any.
-    fn take_losses(&mut self, losses: Option<Losses>)
-        ensures { self.new ≡ record self.old { losses = unwrap_or losses self.old.losses } }
-    {
-        if let Some(losses) = losses {
-            self.losses = losses;
-        }
-    }
-
-    /// Changes the frames that wait.
-    fn change_outboxes(&mut self, change: OutboxChange)
-        ensures { self.new ≡ record self.old { outboxes = outboxes_after change self.old.outboxes } }
-    {
-        match change {
-            OutboxChange::Unchanged => {}
-            OutboxChange::Taken { seat } => self.outboxes.take_first(seat),
-            OutboxChange::Cleared { seat } => self.outboxes.clear(seat),
-        }
+/// There is something else, where it changes.
+fn put_in<T: Drop>(kept: &mut T, changed: Option<T>)
+    ensures { kept.new ≡ unwrap_or changed kept.old }
+{
+    if let Some(changed) = changed {
+        *kept = changed;
     }
 }
 
@@ -407,7 +418,7 @@ fn call_tables(alloc: Global, slots: usize) -> Result<CallTables, Memory>
 
 /// Tables for connections and what waits for them, with nothing in them.
 fn conn_tables(alloc: Global, count: usize) -> Result<(Seats<Numbered<Conn>>, Outboxes), Memory>
-    ensures { IfOk result (λ tables. tables ≡ (no_seats count, no_outboxes count)) }
+    ensures { IfOk result (λ tables. tables ≡ (no_seats count, nothing_waits count)) }
 {
     let conns = Seats::empty(alloc, count)?;
     let outboxes = Outboxes::new(alloc, count)?;

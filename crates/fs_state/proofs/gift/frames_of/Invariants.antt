@@ -1,6 +1,6 @@
 use Rattle.std.proofs.Common.{◌≡◌, ◌-◌, ◌^◌, min, take}
-use Rattle.fs_state.specs.Outboxes.{frames_given}
+use Rattle.fs_state.specs.Waiting.{waiting_given}
 use Rattle.fs_state.proofs.gift.frames_of.Given as goal
 
-abbrev pub invariant-loop-gift : goal.invariant-loop-gift
-invariant-loop-gift l = l.count ≡ min (frames_given (take l.gift-index l.gifts)) (2 ^ 64 - 1)
+abbrev pub invariant-loop-given : goal.invariant-loop-given
+invariant-loop-given l = l.count ≡ min (waiting_given (take l.given-index l.all)) (2 ^ 64 - 1)

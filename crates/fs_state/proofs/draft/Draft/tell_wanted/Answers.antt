@@ -13,7 +13,7 @@ returns-then-not-has_one c =
     let unwanted : spec.is_wanted base.conns telling ≡ false =
     sym (wanted_front telling c.args.seats base.conns c.requires.empty) ∙ sym (rw c.in_ok-takers.ensures at c.has_one.ensures)
     ∙ c.if-not-has_one.true in
-    sym (ap (option_map (spec.post_of (take c.args.seats base.conns))) (told_unwanted base s c.args.number c.args.event.now unwanted))
+    sym (ap (option_map (spec.post_of (take c.args.seats base.conns) c.args.number)) (told_unwanted base s c.args.number c.args.event.now unwanted))
 
 pub returns : goal.returns
 returns c =
@@ -25,4 +25,4 @@ returns c =
     sym (wanted_front telling c.args.seats base.conns c.requires.empty) ∙ sym (rw c.in_ok-takers.ensures at c.has_one.ensures)
     ∙ c.if-not-has_one.false in
     rw (c.in_ok-takers.ensures, c.in_ok-frame.ensures)
-    (sym (ap (option_map (spec.post_of front)) (told_wanted base s c.args.number c.args.event.now wanted)))
+    (sym (ap (option_map (spec.post_of front c.args.number)) (told_wanted base s c.args.number c.args.event.now wanted)))

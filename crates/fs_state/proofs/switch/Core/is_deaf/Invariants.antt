@@ -8,5 +8,5 @@ use Rattle.fs_state.proofs.switch.Core.is_deaf.Given as goal
 abbrev pub invariant-loop-seat : goal.invariant-loop-seat
 invariant-loop-seat l =
     (name : EventName) (subclass : Text) →
-    first_seat (spec.hears_at name subclass) (drop l.seat l.self.conns) l.seat
-    ≡ first_seat (spec.hears_at name subclass) l.self.conns 0
+    first_seat (spec.hears_at name subclass) (drop l.seat l.self.switch.conns) l.seat
+    ≡ first_seat (spec.hears_at name subclass) l.self.switch.conns 0

@@ -7,7 +7,7 @@ use Rattle.fs_seats.specs.declared.numbered.Numbered.{Numbered}
 use Rattle.fs_seats.specs.Seats.{held_in, with_held, IsEmptyFrom}
 use Rattle.fs_state.specs.declared.conn.Conn.{Conn}
 use Rattle.fs_state.specs.declared.conn.Parting.TheVariants.{ChannelLeft}
-use Rattle.fs_state.specs.declared.gift.Gift.{Gift}
+use Rattle.fs_state.specs.Frames.{Gift}
 use Rattle.fs_state.specs.Switch.{Switch, with_conn_at, gift_of}
 use Rattle.fs_machine.specs.Connections.{parted}
 use Rattle.fs_machine.specs.Controlling.{is_left, conn_behind, farewell, farewell_behind, left_at, after_leavings}

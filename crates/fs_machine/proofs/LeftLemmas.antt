@@ -12,7 +12,7 @@ use Rattle.fs_seats.proofs.HeldLemmas.{nothing_held}
 use Rattle.fs_seats.proofs.RowLemmas.{each_put_at}
 use Rattle.fs_state.specs.declared.conn.Conn.{Conn}
 use Rattle.fs_state.specs.declared.conn.Parting.TheVariants.{ChannelLeft}
-use Rattle.fs_state.specs.declared.gift.Gift.{Gift}
+use Rattle.fs_state.specs.Frames.{Gift}
 use Rattle.fs_state.specs.Drawn as numbers
 use Rattle.fs_state.specs.Switch.{Switch, empty, gift_of, at_moment}
 use Rattle.fs_machine.specs.declared.entry.Entry.{Entry}

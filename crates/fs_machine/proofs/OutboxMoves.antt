@@ -17,12 +17,12 @@ use Rattle.fs_state.specs.declared.conn.Conn.{Conn}
 use Rattle.fs_state.specs.declared.conn.Parting.TheVariants as parting
 use Rattle.fs_state.specs.declared.conn.Phase.{Phase}
 use Rattle.fs_state.specs.declared.conn.Phase.TheVariants as phase
-use Rattle.fs_state.specs.declared.gift.Gift.{Gift}
+use Rattle.fs_state.specs.Frames.{Gift}
 use Rattle.fs_state.specs.declared.job.Asker.{Asker}
 use Rattle.fs_state.specs.declared.job.Asker.TheVariants as asker
 use Rattle.fs_state.specs.declared.job.JobWork.{JobWork}
 use Rattle.fs_state.specs.declared.job.JobWork.TheVariants.{Sleep, Originate}
-use Rattle.fs_state.specs.declared.outgoing.Outgoing.TheVariants.{Reply}
+use Rattle.fs_state.specs.Frames.{Reply}
 use Rattle.fs_state.specs.Drawn as numbers
 use Rattle.fs_state.specs.Frames.{Frames, is_event, events_in}
 use Rattle.fs_state.specs.Posting.{most_events, room_behind, posts, with_posts}

@@ -11,8 +11,8 @@ use Rattle.fs_seats.specs.Seats.{held_in}
 use Rattle.fs_seats.specs.Rows.{has_number, seat_of}
 use Rattle.fs_seats.proofs.RowLemmas.{AreDistinct, none_stands}
 use Rattle.fs_state.specs.declared.conn.Conn.{Conn}
-use Rattle.fs_state.specs.declared.gift.Gift.{Gift}
-use Rattle.fs_state.specs.declared.outgoing.Outgoing.TheVariants as outgoing
+use Rattle.fs_state.specs.Frames.{Gift}
+use Rattle.fs_state.specs.Frames as outgoing
 use Rattle.fs_state.specs.Frames.{Frames, texts_of}
 use Rattle.fs_state.specs.Switch.{Switch, outgoing_for}
 use Rattle.fs_state.specs.Posting.{tellings, tellings_from, wanted_by, room_behind, posts_of, wanted_at, posts_at, posts_from, posts}

@@ -23,7 +23,7 @@ use Rattle.fs_chan.specs.Bridging.{exported_pairs}
 use Rattle.fs_seats.specs.declared.numbered.Numbered.{Numbered}
 use Rattle.fs_seats.specs.Rows.{row_of}
 use Rattle.fs_state.specs.declared.conn.Conn.{Conn}
-use Rattle.fs_state.specs.declared.gift.Gift.{Gift}
+use Rattle.fs_state.specs.Frames.{Gift}
 use Rattle.fs_state.specs.declared.job.Asker.{Asker}
 use Rattle.fs_state.specs.declared.job.Job.{Job}
 use Rattle.fs_state.specs.declared.job.JobWork.{JobWork}

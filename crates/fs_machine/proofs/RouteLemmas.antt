@@ -3,10 +3,12 @@ use Rattle.std.proofs.Common.{◌≡◌, ℕ, Bool, true, false, List, Option, N
 use Rattle.std.specs.Prelude.{if◌then◌else◌, slice_index, ◌&&◌, ◌↔◌, IsTrue}
 use Rattle.std.specs.Arc.{arc_value}
 use Rattle.std.specs.Option.{option_map}
+use Rattle.fs_text.specs.Texts.{Text}
 use Rattle.fs_text.specs.declared.states.State.{State}
 use Rattle.fs_text.specs.declared.states.State.TheVariants.{CsRouting}
 use Rattle.fs_doc.specs.Reading.{Configuration}
 use Rattle.fs_doc.specs.Dialplans.{Context}
+use Rattle.fs_event.specs.Rings.{Events}
 use Rattle.fs_chan.specs.declared.chan.Chan.{Chan}
 use Rattle.fs_chan.specs.Changes.{may_route}
 use Rattle.fs_plan.specs.Outcomes.{Outcome}
@@ -41,12 +43,12 @@ routable_is found c is may =
     ap is_routable_in has.0 ∙ (ap (λ (b : Bool). b && may_route c) has.1 ∙ may)
 
 -- what is copied of a channel that is to be routed shows it
-pub shows : (config : Configuration) (kept : Switch) (journal : List Entry) (counts : List ℕ) (spare slot : ℕ) (c : Chan) (seen : Snapshot) →
-    StandsFor config kept journal → kept.contexts ≡ config.contexts → AreKept config journal counts →
+pub shows : (config : Configuration) (kept : Switch) (journal : List Entry) (counts : List ℕ) (spare : ℕ) (ring : Events Text) (slot : ℕ)
+    (c : Chan) (seen : Snapshot) → StandsFor config kept journal → kept.contexts ≡ config.contexts → AreKept config journal counts →
     routing_in (chan_at kept slot) ≡ Some c → may_route c ≡ true → IsOf seen c → kept.globals ≡ seen.globals →
     seen.touched ≡ slice_index counts slot → arc_value seen.dialplan ≡ kept.contexts →
-    Shows (record { config = config; journal = journal; spare = spare }) slot seen
-shows config kept journal counts spare slot c seen stands contexts known here may own globals touched dialplan =
+    Shows (record { config = config; journal = journal; spare = spare; ring = ring }) slot seen
+shows config kept journal counts spare ring slot c seen stands contexts known here may own globals touched dialplan =
     let s = run_from (empty config) journal in record {
       routable = subst (λ (k : Switch). is_routable slot k ≡ true) stands.state (routable_is (chan_at kept slot) c here may);
       basis =

@@ -13,7 +13,7 @@ use Rattle.fs_seats.proofs.RowLemmas.{within-without_row, seat_of-without_row_sa
 use Rattle.fs_seats.proofs.RowLemmas.{within-with_new_row, seat_of-with_new_row_other, new_stands, new_free}
 use Rattle.fs_state.specs.declared.conn.Conn.{Conn}
 use Rattle.fs_state.specs.declared.conn.Parting.TheVariants.{ChannelLeft}
-use Rattle.fs_state.specs.declared.gift.Gift.{Gift}
+use Rattle.fs_state.specs.Frames.{Gift}
 use Rattle.fs_state.specs.Drawn as numbers
 use Rattle.fs_state.specs.Frames.{Frames, texts_of}
 use Rattle.fs_state.specs.Outboxes.{outbox_at, without_first_frame, without_frames, with_frames_at, delivered}

@@ -21,7 +21,7 @@ use Rattle.fs_state.specs.declared.conn.Control.{Control}
 use Rattle.fs_state.specs.declared.conn.Phase.{Phase}
 use Rattle.fs_state.specs.declared.conn.Phase.TheVariants.{Ready}
 use Rattle.fs_state.specs.declared.conn.Parting.TheVariants.{ChannelLeft}
-use Rattle.fs_state.specs.declared.gift.Gift.{Gift}
+use Rattle.fs_state.specs.Frames.{Gift}
 use Rattle.fs_state.specs.Drawn as numbers
 use Rattle.fs_state.specs.Moves.{application_event, after_move, after_completion}
 use Rattle.fs_state.specs.Switch.{Switch, chan_at, with_chan, conn_of, with_conn_at, with_new_conn, is_full_of_conns, with_event, gift_of}

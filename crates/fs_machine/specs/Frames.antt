@@ -1,7 +1,7 @@
 -- The frames that entries give a connection, those that they hand out to it, and the commands that it gives.
 use Rattle.std.specs.Prelude.{ℕ, ◌==◌, List, [], ◌∷◌, ◌++◌, take, if◌then◌else◌}
 use Rattle.fs_text.specs.Texts.{Text}
-use Rattle.fs_state.specs.declared.gift.Gift.{Gift}
+use Rattle.fs_state.specs.Frames.{Gift}
 use Rattle.fs_state.specs.Outboxes.{texts_of}
 use Rattle.fs_state.specs.Switch.{Switch, waiting_for, at_moment, all_given}
 use Rattle.fs_state.specs.Posting.{with_posts}

@@ -1,8 +1,10 @@
 -- The run of a journal.
-use Rattle.std.specs.Prelude.{◌≡◌, ℕ, List, [], ◌∷◌, None}
+use Rattle.std.specs.Prelude.{◌≡◌, ◌≤◌, ℕ, List, [], ◌∷◌, None}
+use Rattle.fs_text.specs.Texts.{Text}
 use Rattle.fs_doc.specs.Reading.{Configuration}
+use Rattle.fs_event.specs.Rings.{Events}
 use Rattle.fs_state.specs.Switch.{Switch, empty}
-use Rattle.fs_state.specs.Drafts.{after, Fits}
+use Rattle.fs_state.specs.Drafts.{after, Fits, events_posted}
 use Rattle.fs_state.specs.declared.delta.Delta.{Delta}
 use Rattle.fs_machine.specs.declared.entry.Entry.{Entry}
 use Rattle.fs_machine.specs.declared.machine.Change.{Change}
@@ -21,11 +23,12 @@ abbrev pub IsRunFrom : Switch → List Entry → Type 0
 IsRunFrom s [] = Unit {0}
 IsRunFrom s (entry ∷ entries) = (refusal_of s entry ≡ None) × IsRunFrom (step s entry).state entries
 
--- a machine: what it was configured by, its journal, and for how many entries there is room
+-- a machine: what it was configured by, its journal, for how many entries there is room, and the ring of the events that wait
 pub record View : Type 0 where
   pub config : Configuration
   pub journal : List Entry
   pub spare : ℕ
+  pub ring : Events Text
 
 -- the state behind its journal
 abbrev pub state_of : View → Switch
@@ -40,6 +43,11 @@ pub record StandsFor (config : Configuration) (kept : Switch) (journal : List En
 pub record IsSame (old new : View) : Type 0 where
   pub config : new.config ≡ old.config
   pub journal : new.journal ≡ old.journal
+
+-- there is room for a change: in the journal for its entry, and in the ring for the events that it posts
+pub record HasRoomFor (m : View) (delta : Delta) : Type 0 where
+  pub entry : 1 ≤ m.spare
+  pub events : events_posted delta ≤ m.ring.spare
 
 -- an entry that is not refused comes to this change and this reply
 pub record IsPrepared (s : Switch) (entry : Entry) (delta : Delta) (reply : Reply) : Type 0 where

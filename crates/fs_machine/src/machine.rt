@@ -1,10 +1,11 @@
 //! A switch with the journal of its entries: an entry is judged and prepared, and then done.
 
-ghost use Rattle.std.specs.Prelude.{◌≡◌, ◌≤◌, [], ◌∷◌, ◌++◌, false, None, Some, IfOk, IfErr, OnOk};
+ghost use Rattle.std.specs.Prelude.{◌≡◌, [], ◌∷◌, ◌++◌, false, None, Some, IfOk, IfErr, OnOk};
 ghost use Rattle.fs_doc.specs.Limits.{IsWithin};
 ghost use Rattle.fs_state.specs.declared.delta.OutboxChange.TheVariants.{Unchanged};
 ghost use Rattle.fs_state.specs.Drafts.{after, drafted, Fits};
 ghost use Rattle.fs_state.specs.Switch.{empty, HasRoomWithin};
+ghost use Rattle.fs_state.specs.Waiting.{AreHeld};
 ghost use Rattle.fs_machine.specs.Entries.{cost_with};
 ghost use Rattle.fs_machine.specs.Step.{act_done, step, refusal_of, IsRefusedFor, ComesTo};
 ghost use Rattle.fs_machine.specs.Runs as spec;
@@ -18,18 +19,19 @@ use crate::refused::refused_act;
 use crate::reply::Reply;
 use crate::touches::Touches;
 use fs_doc::Config;
+use fs_event::Ring;
 use fs_plan::Dialplan;
 use fs_seats::Boxed;
 use fs_state::{Blank, Core, Delta, Draft, Seen};
-use fs_text::Memory;
+use fs_text::{Memory, Txt};
 use std::alloc::Global;
 use std::marker::Model;
 use std::sync::Arc;
 
 /// A switch with the journal of its entries.
 ///
-/// A contract sees what it was configured by, its journal, and for how many entries there is room; its state is what
-/// the entries make of the empty switch.
+/// A contract sees what it was configured by, its journal, for how many entries there is room, and the ring of the events
+/// that wait for connections; its state is what the entries make of the empty switch.
 pub struct Machine {
     // What it started from.
     pub(crate) config: Arc<Config>,
@@ -98,13 +100,18 @@ impl Model for Machine {
 
     ghost Value = { View };
 
-    ghost view = { λ m. record { config = arc_value m.config; journal = m.journal.entries; spare = m.journal.spare } };
+    ghost view = { λ m. record {
+      config = arc_value m.config;
+      journal = m.journal.entries;
+      spare = m.journal.spare;
+      ring = m.core.ring;
+    } };
 
-    ghost invariant = { λ m. StandsFor (arc_value m.config) m.core m.journal.entries
-        × (m.core.settings ≡ (arc_value m.config).settings)
-        × (arc_value m.dialplan ≡ m.core.contexts)
+    ghost invariant = { λ m. StandsFor (arc_value m.config) m.core.switch m.journal.entries
+        × (m.core.switch.settings ≡ (arc_value m.config).settings)
+        × (arc_value m.dialplan ≡ m.core.switch.contexts)
         × IsWithin (arc_value m.config)
-        × (m.core.contexts ≡ (arc_value m.config).contexts)
+        × (m.core.switch.contexts ≡ (arc_value m.config).contexts)
         × AreKept (arc_value m.config) m.journal.entries m.touches };
 }
 
@@ -146,6 +153,15 @@ impl Machine {
         &self.journal
     }
 
+    /// The events that wait for connections: those alone that still stand in an outbox of its state, each once, with as
+    /// many readers as outboxes it stands in.
+    pub fn ring(&self) -> &Ring<Txt>
+        ensures ring { result.now ≡ self.now.ring }
+        ensures held { AreHeld (spec.state_of self.now).outboxes result.now.pairs }
+    {
+        self.core.ring()
+    }
+
     /// The journal of its entries alone.
     pub fn into_journal(self) -> Journal
         ensures { result.entries ≡ self.journal }
@@ -167,11 +183,14 @@ impl Machine {
         ensures refused { IfErr result (IsRefusedFor (spec.state_of self.old) asked.entry.now) }
         ensures free { OnOk result (HasRoomWithin self.old.config.settings.journal_limit (spec.state_of self.old)) }
         ensures prepared { IfOk result (spec.Changes (spec.state_of self.old) asked.entry.now) }
-        ensures room { IfOk result (λ change. 1 ≤ self.new.spare) }
+        ensures room { IfOk result (λ change. spec.HasRoomFor self.new change.delta) }
     {
+        judge(&self.core, asked)?;
         self.journal.make_room()?;
         let blank = self.take_blank()?;
-        prepare_entry(&self.core, blank, &self.dialplan, asked)
+        let change = prepare_entry(&self.core, blank, &self.dialplan, asked)?;
+        self.core.make_room(&change.delta)?;
+        Ok(change)
     }
 
     /// What the entry in hand is noted on.
@@ -188,7 +207,7 @@ impl Machine {
     /// Does what was prepared. It takes no memory.
     pub fn apply(&mut self, change: Change) -> Reply
         requires prepared { spec.IsPrepared (spec.state_of self.old) change.entry change.delta change.reply }
-        requires room { 1 ≤ self.old.spare }
+        requires room { spec.HasRoomFor self.old change.delta }
         ensures config { self.new.config ≡ self.old.config }
         ensures journal { self.new.journal ≡ self.old.journal ++ change.entry ∷ [] }
         ensures reply { result ≡ (step (spec.state_of self.old) change.entry).reply }
@@ -219,21 +238,19 @@ impl Machine {
     }
 }
 
-// Judges an entry over a state, and prepares what it changes.
+// Prepares what an entry changes of a state by which it is not refused.
 #[tactic(auto, unfolding(crate::specs::Step::step))]
 fn prepare_entry(
     core: &Core,
     blank: Blank,
     dialplan: &Dialplan,
     asked: &Entry,
-) -> Result<Change, Refusal>
-    requires { dialplan.now ≡ core.now.contexts }
-    ensures refused { IfErr result (IsRefusedFor core.now asked.entry.now) }
-    ensures free { OnOk result (HasRoomWithin core.now.settings.journal_limit core.now) }
+) -> Result<Change, Memory>
+    requires dialplan { dialplan.now ≡ core.now.switch.contexts }
+    requires defined { refusal_of core.now.switch asked.now ≡ None }
     ensures prepared { IfOk result (λ change. (change.entry ≡ asked.entry.now)
-        × spec.IsPrepared core.now asked.entry.now change.delta change.reply) }
+        × spec.IsPrepared core.now.switch asked.entry.now change.delta change.reply) }
 {
-    judge(core, asked)?;
     let mut draft = Draft::new(core, blank);
     draft.advance(asked.moment);
     let (entry, reply) = enter(&mut draft, dialplan, asked)?;
@@ -249,9 +266,9 @@ fn prepare_entry(
 /// Judges an entry over a state: whether it is refused, and why.
 #[tactic(auto, unfolding(crate::specs::Step::refusal_of))]
 pub(crate) fn judge(core: &Core, asked: &Entry) -> Result<(), Refusal>
-    ensures refused { IfErr result (λ refusal. refusal_of core.now asked.now ≡ Some refusal) }
-    ensures free { OnOk result (HasRoomWithin core.now.settings.journal_limit core.now) }
-    ensures defined { OnOk result (refusal_of core.now asked.now ≡ None) }
+    ensures refused { IfErr result (λ refusal. refusal_of core.now.switch asked.now ≡ Some refusal) }
+    ensures free { OnOk result (HasRoomWithin core.now.switch.settings.journal_limit core.now.switch) }
+    ensures defined { OnOk result (refusal_of core.now.switch asked.now ≡ None) }
 {
     if core.is_full() {
         let limit = core.settings().journal_limit;

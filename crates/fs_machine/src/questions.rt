@@ -194,7 +194,7 @@ pub(crate) fn owed_to(draft: &Draft<'_>, conn: u32) -> Option<u64>
 // How many slots hold a channel.
 #[tactic(auto, using(crate::proofs::CountLemmas::count_rules))]
 fn held_among(core: &Core) -> u16
-    ensures { result ≡ spec.live core.now }
+    ensures { result ≡ spec.live core.now.switch }
 {
     let mut count = 0;
     for slot in 0..core.slots() {

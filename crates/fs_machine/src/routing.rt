@@ -1,11 +1,11 @@
 //! Channels are routed by plans that were made beside the switch.
 
-ghost use Rattle.std.specs.Prelude.{◌≡◌, ◌≢◌, ◌≤◌, ◌↔◌, [], ◌∷◌, ◌++◌, None, Some, true, IfOk, IfErr, OnOk, MatchOption, IsTrue, false};
+ghost use Rattle.std.specs.Prelude.{◌≡◌, ◌≢◌, ◌↔◌, [], ◌∷◌, ◌++◌, None, Some, true, IfOk, IfErr, OnOk, MatchOption, IsTrue, false};
 ghost use Rattle.std.specs.Arc.{arc_value};
 ghost use Rattle.fs_state.specs.Switch.{HasRoomWithin};
 ghost use Rattle.fs_machine.specs.Entries.{cost_with};
 ghost use Rattle.fs_machine.specs.Routes as spec;
-ghost use Rattle.fs_machine.specs.Runs.{state_of, IsSame, IsPrepared, Changes};
+ghost use Rattle.fs_machine.specs.Runs.{state_of, IsSame, IsPrepared, Changes, HasRoomFor};
 ghost use Rattle.fs_machine.specs.Step.{step, refusal_of, IsRefusedFor};
 
 use crate::controlling::part_left;
@@ -86,11 +86,13 @@ impl Machine {
         ensures refused { IfErr result (IsRefusedFor (state_of self.old) (spec.work_at now slot)) }
         ensures free { OnOk result (HasRoomWithin self.old.config.settings.journal_limit (state_of self.old)) }
         ensures prepared { IfOk result (Changes (state_of self.old) (spec.work_at now slot)) }
-        ensures room { IfOk result (λ change. 1 ≤ self.new.spare) }
+        ensures room { IfOk result (λ change. HasRoomFor self.new change.delta) }
     {
         self.journal.make_room()?;
         let blank = self.take_blank()?;
-        prepare_hunted(&self.core, blank, now, slot, plan.into_hunt())
+        let change = prepare_hunted(&self.core, blank, now, slot, plan.into_hunt())?;
+        self.core.make_room(&change.delta)?;
+        Ok(change)
     }
 }
 
@@ -103,11 +105,11 @@ fn prepare_hunted(
     slot: u16,
     hunt: Hunt,
 ) -> Result<Change, Refusal>
-    requires { spec.IsHunted slot hunt core.now }
-    ensures refused { IfErr result (IsRefusedFor core.now (spec.work_at now slot)) }
-    ensures free { OnOk result (HasRoomWithin core.now.settings.journal_limit core.now) }
+    requires { spec.IsHunted slot hunt core.now.switch }
+    ensures refused { IfErr result (IsRefusedFor core.now.switch (spec.work_at now slot)) }
+    ensures free { OnOk result (HasRoomWithin core.now.switch.settings.journal_limit core.now.switch) }
     ensures prepared { IfOk result (λ change. (change.entry ≡ spec.work_at now slot)
-        × IsPrepared core.now (spec.work_at now slot) change.delta change.reply) }
+        × IsPrepared core.now.switch (spec.work_at now slot) change.delta change.reply) }
 {
     let entry = Entry {
         moment: now,

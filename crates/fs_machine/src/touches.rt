@@ -46,8 +46,8 @@ impl Touches {
 
     /// Counts an entry that is to make these changes.
     pub(crate) fn note(&mut self, core: &Core, delta: &Delta)
-        requires { length self.old ≡ length core.now.channels }
-        ensures counted { spec.AreCountedOn core.now (after core.now delta.now) self.old self.new }
+        requires { length self.old ≡ length core.now.switch.channels }
+        ensures counted { spec.AreCountedOn core.now.switch (after core.now.switch delta.now) self.old self.new }
         ensures all { length self.new ≡ length self.old }
     {
         if keeps_globals(core, delta) {
@@ -59,9 +59,9 @@ impl Touches {
 
     // Counts it where it writes a channel, since the globals stay.
     fn note_written(&mut self, core: &Core, delta: &Delta)
-        requires all { length self.old ≡ length core.now.channels }
-        requires globals { (after core.now delta.now).globals ≡ core.now.globals }
-        ensures counted { spec.AreCountedOn core.now (after core.now delta.now) self.old self.new }
+        requires all { length self.old ≡ length core.now.switch.channels }
+        requires globals { (after core.now.switch delta.now).globals ≡ core.now.switch.globals }
+        ensures counted { spec.AreCountedOn core.now.switch (after core.now.switch delta.now) self.old self.new }
         ensures all { length self.new ≡ length self.old }
     {
         let slots = core.slots();
@@ -76,9 +76,9 @@ impl Touches {
 
     // Counts it wherever a channel is to be routed, since the globals change.
     fn note_all(&mut self, core: &Core, delta: &Delta)
-        requires all { length self.old ≡ length core.now.channels }
-        requires globals { (after core.now delta.now).globals ≢ core.now.globals }
-        ensures counted { spec.AreCountedOn core.now (after core.now delta.now) self.old self.new }
+        requires all { length self.old ≡ length core.now.switch.channels }
+        requires globals { (after core.now.switch delta.now).globals ≢ core.now.switch.globals }
+        ensures counted { spec.AreCountedOn core.now.switch (after core.now.switch delta.now) self.old self.new }
         ensures all { length self.new ≡ length self.old }
     {
         for slot in 0..core.slots() {
@@ -89,8 +89,8 @@ impl Touches {
     // Counts it in one slot, if it changes what stands there; `same` says whether the globals stay.
     fn note_slot(&mut self, core: &Core, delta: &Delta, slot: u16, same: bool)
         requires slot { slot < length self.old }
-        requires same { IsTrue same ↔ ((after core.now delta.now).globals ≡ core.now.globals) }
-        ensures here { spec.IsCountedOn (spec.basis_at slot core.now) (spec.basis_at slot (after core.now delta.now))
+        requires same { IsTrue same ↔ ((after core.now.switch delta.now).globals ≡ core.now.switch.globals) }
+        ensures here { spec.IsCountedOn (spec.basis_at slot core.now.switch) (spec.basis_at slot (after core.now.switch delta.now))
             (slice_index self.old slot) (slice_index self.new slot) }
         ensures others { (other : ℕ) → other ≢ slot → slice_index self.new other ≡ slice_index self.old other }
         ensures all { length self.new ≡ length self.old }
@@ -104,7 +104,7 @@ impl Touches {
 
 // Whether changes leave the globals as they are.
 fn keeps_globals(core: &Core, delta: &Delta) -> bool
-    ensures { IsTrue result ↔ ((after core.now delta.now).globals ≡ core.now.globals) }
+    ensures { IsTrue result ↔ ((after core.now.switch delta.now).globals ≡ core.now.switch.globals) }
 {
     match &delta.globals {
         Some(globals) => globals.is_same(core.globals()),
@@ -114,8 +114,8 @@ fn keeps_globals(core: &Core, delta: &Delta) -> bool
 
 // Whether changes change what the route of the channel in a slot rests on; `same` says whether the globals stay.
 fn changes(core: &Core, delta: &Delta, slot: u16, same: bool) -> bool
-    requires { IsTrue same ↔ ((after core.now delta.now).globals ≡ core.now.globals) }
-    ensures { IsTrue result ↔ (spec.basis_at slot core.now ≢ spec.basis_at slot (after core.now delta.now)) }
+    requires { IsTrue same ↔ ((after core.now.switch delta.now).globals ≡ core.now.switch.globals) }
+    ensures { IsTrue result ↔ (spec.basis_at slot core.now.switch ≢ spec.basis_at slot (after core.now.switch delta.now)) }
 {
     let after = to_route(core.chan_after(delta, slot));
     let Some(before) = to_route(core.chan(slot)) else {

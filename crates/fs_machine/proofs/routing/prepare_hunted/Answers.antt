@@ -24,7 +24,7 @@ returns-clause-prepared c =
       record {
         defined = c.in_ok-judge.ensures.defined;
         steps =
-            routed_steps c.args.core.now c.post.new.self.base (drafted c.advance.new.self) (drafted c.work_by.new.draft) (drafted c.part_left.new.draft)
+            routed_steps c.args.core.now.switch c.post.new.self.base (drafted c.advance.new.self) (drafted c.work_by.new.draft) (drafted c.part_left.new.draft)
             (drafted c.post.new.self) c.args.now c.args.slot c.in_ok-delta.delta based
             (c.advance.ensures.advanced ∙ ap (at_moment c.args.now) c.new-draft.ensures.drafted) c.in_ok-work_by.ensures.1
             c.in_ok-part_left.ensures.1 posts c.in_ok-delta.ensures.delta;

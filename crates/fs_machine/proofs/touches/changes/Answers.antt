@@ -15,7 +15,7 @@ returns c =
       | else-same w ↦ w.result-is ∙ (w.if-same.false ∙ sym (ap (λ b. b && alike) w.if-same.false))
     ] in
     rw e
-    (both_changed c.args.core.now (after c.args.core.now c.args.delta.now) c.args.slot c.in-Some.before.now c.in-Some-after.after.now c.args.same
+    (both_changed c.args.core.now.switch (after c.args.core.now.switch c.args.delta.now) c.args.slot c.in-Some.before.now c.in-Some-after.after.now c.args.same
     alike
     (sym (ap routing_in c.chan.ensures) ∙ (sym c.to_route.ensures ∙ ap option_copied c.in-Some.is))
     (sym (ap routing_in c.chan_after.ensures) ∙ (sym c.to_route-after.ensures ∙ ap option_copied c.in-Some-after.is))

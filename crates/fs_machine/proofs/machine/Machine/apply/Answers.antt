@@ -16,11 +16,11 @@ use Rattle.fs_machine.proofs.machine.Machine.apply.Goals as goal
 pub invariant_of-self : goal.invariant_of-self
 invariant_of-self c =
     let entry = c.args.change.entry in
-    let kept = c.self.inside.core in
+    let kept = c.self.inside.core.switch in
     let entries = c.self.inside.journal.entries in
     let parts = c.into_parts-entry.ensures in
     let added = c.add.ensures ∙ ap (λ (t : Entry × Delta × Reply). entries ++ t.0 ∷ []) parts in
-    let priced = c.apply-blank.ensures ∙ ap (λ cost. after_entry cost (after kept c.into_parts-entry.result.1)) c.cost.ensures.exact in
+    let priced = c.apply-blank.ensures.switch ∙ ap (λ cost. after_entry cost (after kept c.into_parts-entry.result.1)) c.cost.ensures.exact in
     let done = priced ∙ ap (λ (t : Entry × Delta × Reply). after_entry (cost_of t.0.act) (after kept t.1)) parts in
     let P : View → Type 0 = λ view. IsPrepared (state_of view) entry c.args.change.delta c.args.change.reply in
     let noted = c.deref.ensures ∙ ap (λ (t : Entry × Delta × Reply). t.1) parts in
@@ -40,11 +40,11 @@ invariant_of-self c =
 pub returns-clause-cost : goal.returns-clause-cost
 returns-clause-cost c =
     let entry = c.args.change.entry in
-    let kept = c.self.inside.core in
+    let kept = c.self.inside.core.switch in
     let entries = c.self.inside.journal.entries in
     let parts = c.into_parts-entry.ensures in
     let added = c.add.ensures ∙ ap (λ (t : Entry × Delta × Reply). entries ++ t.0 ∷ []) parts in
-    let priced = c.apply-blank.ensures ∙ ap (λ cost. after_entry cost (after kept c.into_parts-entry.result.1)) c.cost.ensures.exact in
+    let priced = c.apply-blank.ensures.switch ∙ ap (λ cost. after_entry cost (after kept c.into_parts-entry.result.1)) c.cost.ensures.exact in
     let done = priced ∙ ap (λ (t : Entry × Delta × Reply). after_entry (cost_of t.0.act) (after kept t.1)) parts in
     let P : View → Type 0 = λ view. IsPrepared (state_of view) entry c.args.change.delta c.args.change.reply in
     let cost =
@@ -54,5 +54,6 @@ returns-clause-cost c =
       config = arc_value c.self.inside.config;
       journal = c.add.new.self.entries;
       spare = 0;
+      ring = c.self.inside.core.ring;
     })).cost ≡ min ((state_of view).cost + cost_of entry.act) (2 ^ 64 - 1) in
     subst Q c.self.view_is (rw added cost)

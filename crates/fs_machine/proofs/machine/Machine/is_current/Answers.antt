@@ -12,7 +12,7 @@ returns-in_default c =
     let P : Switch → Type 0 = λ s. IsTrue false ↔ (basis_at c.args.slot s ≡ Some (shown c.args.seen.now)) in
     subst (λ (view : View). P (state_of view)) c.self.view_is
     (subst P c.self.invariant.0.state
-    (never_current c.self.inside.core c.args.slot c.args.seen.now
+    (never_current c.self.inside.core.switch c.args.slot c.args.seen.now
     (sym (ap routing_in c.chan.ensures) ∙ (sym c.to_route.ensures ∙ ap option_copied c.in_default.is))))
 
 pub returns-then-alike : goal.returns-then-alike
@@ -20,7 +20,7 @@ returns-then-alike c =
     let P : Switch → Type 0 = λ s. IsTrue c.is_same.result ↔ (basis_at c.args.slot s ≡ Some (shown c.args.seen.now)) in
     subst (λ (view : View). P (state_of view)) c.self.view_is
     (subst P c.self.invariant.0.state
-    (current_is c.self.inside.core c.args.slot c.in-Some.chan.now c.args.seen.now true c.is_same.result
+    (current_is c.self.inside.core.switch c.args.slot c.in-Some.chan.now c.args.seen.now true c.is_same.result
     (sym (ap routing_in c.chan.ensures) ∙ (sym c.to_route.ensures ∙ ap option_copied c.in-Some.is))
     (rw c.if-alike.true at c.shows-alike.ensures) (rw c.globals.ensures at c.is_same.ensures)))
 
@@ -30,6 +30,6 @@ returns-else-alike c =
     rw c.if-alike.false
     (subst (λ (view : View). P (state_of view)) c.self.view_is
     (subst P c.self.invariant.0.state
-    (other_current c.self.inside.core c.args.slot c.in-Some.chan.now c.args.seen.now
+    (other_current c.self.inside.core.switch c.args.slot c.in-Some.chan.now c.args.seen.now
     (sym (ap routing_in c.chan.ensures) ∙ (sym c.to_route.ensures ∙ ap option_copied c.in-Some.is))
     (rw c.if-alike.false at c.shows-alike.ensures))))

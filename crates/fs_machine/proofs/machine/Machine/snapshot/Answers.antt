@@ -19,8 +19,8 @@ returns c =
       dialplan = c.in_ok-clone.field-0;
     } in
     subst (λ (view : View). Shows view c.args.slot seen) c.self.view_is
-    (shows (arc_value c.self.inside.config) c.self.inside.core c.self.inside.journal.entries c.self.inside.touches c.self.inside.journal.spare
-    c.args.slot c.in-Some.chan.now seen kept.0 kept.4 kept.5
+    (shows (arc_value c.self.inside.config) c.self.inside.core.switch c.self.inside.journal.entries c.self.inside.touches c.self.inside.journal.spare
+    c.self.inside.core.ring c.args.slot c.in-Some.chan.now seen kept.0 kept.4 kept.5
     (sym (ap routing_in c.chan.ensures) ∙ (sym c.to_route.ensures ∙ ap option_copied c.in-Some.is))
     (sym c.may_route.ensures ∙ c.if-not-may_route.false)
     (record { uuid = sym c.in_ok-copy.ensures; vars = sym c.in_ok-copy-3.ensures; profile = sym c.in_ok-copy-2.ensures })

@@ -10,7 +10,7 @@ pub returns-clause-state : goal.returns-clause-state
 returns-clause-state c =
     let P : View → Type 0 = λ view. IsSound (state_of view) in
     subst P c.self.view_is
-    (sound_state (arc_value c.self.inside.config) c.self.inside.core c.self.inside.journal.entries c.self.invariant.3 c.self.invariant.0)
+    (sound_state (arc_value c.self.inside.config) c.self.inside.core.switch c.self.inside.journal.entries c.self.invariant.3 c.self.invariant.0)
 
 pub returns-clause-config : goal.returns-clause-config
 returns-clause-config c =

@@ -5,7 +5,7 @@ use Rattle.fs_machine.proofs.touches.Touches.note_all.Goals as goal
 
 pub loop-slot-preserved : goal.loop-slot-preserved
 loop-slot-preserved c =
-    let core = c.args.core.now in
+    let core = c.args.core.now.switch in
     let old = c.args.self.now in
     let new = c.loop-slot.self in
     let here = c.note_slot.ensures in record {
@@ -19,6 +19,6 @@ loop-slot-preserved c =
 
 pub returns-clause-counted : goal.returns-clause-counted
 returns-clause-counted c =
-    let past : length c.args.core.now.channels ≤ c.loop-slot.slot = omega (arith, c.slots-slot-end.ensures, c.loop-slot-test.false) in
-    all_counted c.args.core.now c.args.delta.now c.loop-slot.slot c.args.self.now c.loop-slot.self past c.loop-slot.invariant.done
+    let past : length c.args.core.now.switch.channels ≤ c.loop-slot.slot = omega (arith, c.slots-slot-end.ensures, c.loop-slot-test.false) in
+    all_counted c.args.core.now.switch c.args.delta.now c.loop-slot.slot c.args.self.now c.loop-slot.self past c.loop-slot.invariant.done
     c.loop-slot.invariant.left

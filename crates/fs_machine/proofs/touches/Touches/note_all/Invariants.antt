@@ -8,7 +8,7 @@ use Rattle.fs_machine.proofs.touches.Touches.note_all.Given as goal
 abbrev pub invariant-loop-slot : goal.invariant-loop-slot
 invariant-loop-slot l = record {
   all : length l.self ≡ length l.fn.self;
-  done : (slot : ℕ) → slot < l.slot → IsCountedOn (basis_at slot l.core) (basis_at slot (after l.core l.delta))
+  done : (slot : ℕ) → slot < l.slot → IsCountedOn (basis_at slot l.core.switch) (basis_at slot (after l.core.switch l.delta))
       (slice_index l.fn.self slot) (slice_index l.self slot);
   left : (slot : ℕ) → l.slot ≤ slot → slice_index l.self slot ≡ slice_index l.fn.self slot;
 }

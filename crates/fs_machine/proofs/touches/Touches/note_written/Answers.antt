@@ -7,12 +7,12 @@ use Rattle.fs_machine.proofs.touches.Touches.note_written.Goals.{in-Some+then-se
 pub loop-write-init : goal.loop-write-init
 loop-write-init c = record {
   all = refl;
-  noted = none_noted c.args.core.now c.args.delta.now c.args.self.now c.requires.globals;
+  noted = none_noted c.args.core.now.switch c.args.delta.now c.args.self.now c.requires.globals;
 }
 
 pub loop-write-preserved : goal.loop-write-preserved
 loop-write-preserved c =
-    let core = c.args.core.now in
+    let core = c.args.core.now.switch in
     let delta = c.args.delta.now in
     let ws = delta.channels in
     let old = c.args.self.now in
@@ -45,5 +45,5 @@ pub returns-clause-counted : goal.returns-clause-counted
 returns-clause-counted c =
     let ws = c.args.delta.now.channels in
     let past : length ws ≤ c.loop-write.write = omega (arith, c.len-write-end.ensures, c.loop-write-test.false) in
-    all_noted c.args.core.now (after c.args.core.now c.args.delta.now) ws c.loop-write.write c.args.self.now c.loop-write.self past
+    all_noted c.args.core.now.switch (after c.args.core.now.switch c.args.delta.now) ws c.loop-write.write c.args.self.now c.loop-write.self past
     c.loop-write.invariant.noted

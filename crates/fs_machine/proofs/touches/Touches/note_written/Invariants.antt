@@ -7,5 +7,5 @@ use Rattle.fs_machine.proofs.touches.Touches.note_written.Given as goal
 abbrev pub invariant-loop-write : goal.invariant-loop-write
 invariant-loop-write l = record {
   all : length l.self ≡ length l.fn.self;
-  noted : AreNoted l.core (after l.core l.delta) (drop l.write l.delta.channels) l.fn.self l.self;
+  noted : AreNoted l.core.switch (after l.core.switch l.delta) (drop l.write l.delta.channels) l.fn.self l.self;
 }

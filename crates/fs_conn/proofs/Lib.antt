@@ -6,6 +6,7 @@ mod SendLemmas
 mod WriteLemmas
 mod KeepLemmas
 mod HereLemmas
+mod HeldLemmas
 mod TurnLemmas
 mod EndLemmas
 pub mod LawLemmas

@@ -202,7 +202,7 @@ stands_read start now stream stands no_block =
 
 -- all was written, and then a piece was read
 written_fed : (start now : Playing) (out : Output) (stream : Stream) (piece : List ℕ) → (stands : Stands start now stream) →
-    HasNoBlock stream.rest → length piece ≤ 16384 → Writes now.output out now.unsent →
+    HasNoBlock stream.rest → length piece ≤ 4096 → Writes now.output out now.unsent →
     HasWritten start.config start.output out (concat stands.blocks ++ (stream.rest ++ piece)) [] (play_of now)
 written_fed start now out stream piece stands no_block few writes =
     subst (λ (input : List ℕ). HasWritten start.config start.output out input [] (play_of now))

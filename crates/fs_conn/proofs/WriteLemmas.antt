@@ -53,7 +53,7 @@ written_whole config out0 out1 input unsent p written none =
 
 -- and then a piece was read
 pub written_read : (config : Configuration) (out0 out1 : Output) (input piece : List ℕ) (p : Play) → p ≡ after_conversing config input →
-    HasWritten config out0 out1 input [] p → length piece ≤ 16384 → HasWritten config out0 out1 (input ++ piece) [] p
+    HasWritten config out0 out1 input [] p → length piece ≤ 4096 → HasWritten config out0 out1 (input ++ piece) [] p
 written_read config out0 out1 input piece p p_is written few = record {
   sent = written.sent;
   split = written.split;

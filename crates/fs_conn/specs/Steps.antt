@@ -125,16 +125,24 @@ Clears out0 out1 old new (Err (Over end)) = ⊥
 Clears out0 out1 old new (Err OutOfMemory) = ⊥
 Clears out0 out1 old new (Err WriteFault) = Stopped out0 out1 old
 
--- what reading more of a link did, at most 16,384 bytes
+-- a buffer of blocks may be fed: what it holds is no more than a block may have
+abbrev pub MayBeFed : Stream → Type 0
+MayBeFed stream = length stream.rest ≤ 65536
+
+-- what it holds is little: no more than that, and one piece
+abbrev pub HoldsLittle : Stream → Type 0
+HoldsLittle stream = length stream.rest ≤ 69632
+
+-- what reading more of a link did, at most 4,096 bytes
 abbrev pub Fills : Input → Input → Stream → Stream → Result Filled Stop → Type 0
 Fills in0 in1 old new (Ok More) =
-    (piece : List ℕ) × (0 < length piece) × (length piece ≤ 16384) × Reads in0 in1
+    (piece : List ℕ) × (0 < length piece) × (length piece ≤ 4096) × Reads in0 in1
     piece × (in1.faults ≡ in0.faults) × (new ≡ fed_with old piece)
 Fills in0 in1 old new (Ok AtEnd) = IsAtEnd in1.left × (in1 ≡ in0) × (new ≡ old)
 Fills in0 in1 old new (Ok ReadFailed) = (in1 ≡ record in0 { faults = raised in0.faults }) × (new ≡ old)
 Fills in0 in1 old new (Err (Over end)) = ⊥
 Fills in0 in1 old new (Err OutOfMemory) =
-    (piece : List ℕ) × (length piece ≤ 16384) × Reads in0 in1 piece × (in1.faults ≡ in0.faults) × (new ≡ old)
+    (piece : List ℕ) × (length piece ≤ 4096) × Reads in0 in1 piece × (in1.faults ≡ in0.faults) × (new ≡ old)
 Fills in0 in1 old new (Err WriteFault) = (in1 ≡ in0) × (new ≡ old)
 
 -- before that all that was unsent was written, or a write of it failed

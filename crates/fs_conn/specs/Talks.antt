@@ -37,6 +37,7 @@ use Rattle.fs_conn.specs.declared.round.Round.TheVariants as rounds
 use Rattle.fs_conn.specs.declared.round.Piece.{Piece}
 use Rattle.fs_conn.specs.declared.round.Piece.TheVariants as pieces
 use Rattle.fs_conn.specs.Ends.{IsFullAt}
+use Rattle.fs_conn.specs.Steps.{MayBeFed, HoldsLittle}
 use Rattle.fs_conn.specs.Partings.{PartedBy, MadeToStop}
 use Rattle.fs_conn.specs.Owning.{Entered}
 
@@ -235,6 +236,11 @@ tried_of (Err stop) = Err stop
 abbrev pub LacksBlock : List ℕ → Result (Option Round) Stop → Type 0
 LacksBlock rest (Ok None) = HasNoBlock rest
 LacksBlock rest _ = Unit {0}
+
+-- how much is held behind a part of a round: where nothing was tried, more may be fed
+abbrev pub HoldsBehind : Stream → Result (Option Round) Stop → Type 0
+HoldsBehind stream (Ok None) = MayBeFed stream
+HoldsBehind stream _ = HoldsLittle stream
 
 -- what a read did
 abbrev pub Gets : Input → Input → Stream → Stream → Result Piece Stop → Type 0

@@ -37,7 +37,7 @@ pub record IsPrompt (config : Configuration) (input sent : List ℕ) : Type 0 wh
   pub earlier : List ℕ
   pub piece : List ℕ
   pub split : input ≡ earlier ++ piece
-  pub few : length piece ≤ 16384
+  pub few : length piece ≤ 4096
   pub more : List ℕ
   pub written : sent ≡ output_of (after_conversing config earlier) ++ more
 

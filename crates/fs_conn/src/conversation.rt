@@ -5,6 +5,7 @@ ghost use Rattle.fs_machine.specs.Here.{IsHere};
 ghost use Rattle.fs_machine.specs.Questions.{owes};
 ghost use Rattle.fs_conn.specs.Play as spec;
 ghost use Rattle.fs_conn.specs.Play.{switch_of};
+ghost use Rattle.fs_conn.specs.Steps.{HoldsLittle};
 ghost use Rattle.fs_conn.specs.Playing.{Playing, seen, play_of, IsNew};
 ghost use Rattle.fs_conn.specs.Turns.{Stands, Turns, Falls, OnGoOn, Converses, Plays};
 
@@ -63,6 +64,7 @@ impl<L: Link> Play<'_, '_, L> {
         requires waits { IsTrue self.old.wire.input.waits }
         requires here { IsHere 1 (switch_of (play_of (seen self.old))) }
         requires free { owes (switch_of (play_of (seen self.old))) 1 ≡ false }
+        requires little { HoldsLittle blocks.old }
         ensures waits { self.new.wire.input.waits ≡ self.old.wire.input.waits }
         ensures here { OnGoOn result (IsHere 1 (switch_of (play_of (seen self.new)))) }
         ensures free { OnGoOn result (owes (switch_of (play_of (seen self.new))) 1 ≡ false) }
@@ -70,6 +72,7 @@ impl<L: Link> Play<'_, '_, L> {
             → Turns start (seen self.new) blocks.new result }
         ensures falls { Falls (play_of (seen self.old)) blocks.old (play_of (seen self.new)) blocks.new result }
         ensures lent { (seen self.new).lent ≡ (seen self.old).lent }
+        ensures little { HoldsLittle blocks.new }
     {
         self.machine.sound();
         if let Some(end) = self.farewell() {

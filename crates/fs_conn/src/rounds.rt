@@ -8,9 +8,10 @@ ghost use Rattle.fs_book.specs.Passes.{seen, mine, met, parts, opening_state, Is
 ghost use Rattle.fs_machine.specs.Laws.{state_after};
 ghost use Rattle.fs_machine.specs.Standing.{standing_of};
 ghost use Rattle.fs_machine.specs.Turned.{configured};
+ghost use Rattle.fs_conn.specs.Steps.{MayBeFed, HoldsLittle};
 ghost use Rattle.fs_conn.specs.Owning.{OwnsConn};
 ghost use Rattle.fs_conn.specs.Talks.{Point, point, Holds, GoesOn, Gets, Handles, Hung, Departed, Rounds};
-ghost use Rattle.fs_conn.specs.Talks.{IfTried, LacksBlock, tried_of};
+ghost use Rattle.fs_conn.specs.Talks.{IfTried, LacksBlock, HoldsBehind, tried_of};
 
 use crate::closing::{depart, hang_up};
 use crate::end::End;
@@ -27,12 +28,14 @@ use std::alloc::Global;
 use std::sync::Wait;
 
 /// How many bytes a read takes at most.
-const MOST_BYTES: usize = 16_384;
+const MOST_BYTES: usize = 4_096;
 
-// Reads once.
+// Reads once. It is called only where more is needed for a block.
 fn get<L: Link>(blocks: &mut Blocks, link: &mut L) -> Result<Piece, Stop>
+    requires may { MayBeFed blocks.old }
     ensures gets { Gets (L.input link.old) (L.input link.new) blocks.old blocks.new result }
     ensures output { L.output link.new ≡ L.output link.old }
+    ensures little { HoldsLittle blocks.new }
 {
     let mut buf = [0; MOST_BYTES];
     match link.read(&mut buf) {
@@ -159,6 +162,7 @@ fn enter_next<R: Wait, C: Clock, L: Link>(
 ) -> Result<Option<Round>, Stop>
     requires book { IsPassOf configured book.now pass.old }
     requires owns { OwnsConn (configured (opening_state book.now)) conn (seen pass.old) (mine pass.old) }
+    requires little { HoldsLittle blocks.old }
     ensures book { IsPassOf configured book.now pass.new }
     ensures owns { OwnsConn (configured (opening_state book.now)) conn (seen pass.new) (mine pass.new) }
     ensures kept { (met pass.new ≡ met pass.old) × (parts pass.new ≡ parts pass.old) }
@@ -169,6 +173,7 @@ fn enter_next<R: Wait, C: Clock, L: Link>(
         → (L.input link.old).faults ≡ from.input.faults
         → IfTried (C.tells clock.now) (configured (opening_state book.now)) conn from
         (point (seen pass.new) (mine pass.new) (L.input link.new) (L.output link.new)) blocks.new.rest result }
+    ensures held { HoldsBehind blocks.new result }
 {
     match blocks.next_block() {
         Next::Block(block) => {
@@ -207,6 +212,7 @@ fn enter_read<R: Wait, C: Clock, L: Link>(
 ) -> Result<Round, Stop>
     requires book { IsPassOf configured book.now pass.old }
     requires owns { OwnsConn (configured (opening_state book.now)) conn (seen pass.old) (mine pass.old) }
+    requires little { HoldsLittle blocks.old }
     ensures book { IsPassOf configured book.now pass.new }
     ensures owns { OwnsConn (configured (opening_state book.now)) conn (seen pass.new) (mine pass.new) }
     ensures kept { (met pass.new ≡ met pass.old) × (parts pass.new ≡ parts pass.old) }
@@ -216,6 +222,7 @@ fn enter_read<R: Wait, C: Clock, L: Link>(
         → (L.input link.old).faults ≡ from.input.faults
         → Rounds (C.tells clock.now) (configured (opening_state book.now)) conn from
         (point (seen pass.new) (mine pass.new) (L.input link.new) (L.output link.new)) blocks.new.rest result }
+    ensures little { HoldsLittle blocks.new }
 {
     match enter_next(rt, book, pass, alloc, conn, clock, blocks, link) {
         Ok(Some(round)) => Ok(round),
@@ -238,6 +245,7 @@ fn read_on<R: Wait, C: Clock, L: Link>(
     requires book { IsPassOf configured book.now pass.old }
     requires owns { OwnsConn (configured (opening_state book.now)) conn (seen pass.old) (mine pass.old) }
     requires none { HasNoBlock blocks.old.rest }
+    requires may { MayBeFed blocks.old }
     ensures book { IsPassOf configured book.now pass.new }
     ensures owns { OwnsConn (configured (opening_state book.now)) conn (seen pass.new) (mine pass.new) }
     ensures kept { (met pass.new ≡ met pass.old) × (parts pass.new ≡ parts pass.old) }
@@ -248,6 +256,7 @@ fn read_on<R: Wait, C: Clock, L: Link>(
         → (L.input link.old).faults ≡ from.input.faults
         → IfTried (C.tells clock.now) (configured (opening_state book.now)) conn from
         (point (seen pass.new) (mine pass.new) (L.input link.new) (L.output link.new)) blocks.new.rest result }
+    ensures held { HoldsBehind blocks.new result }
 {
     match get(blocks, link) {
         Ok(Piece::More) => tried(enter_read(rt, book, pass, alloc, conn, clock, blocks, link)),
@@ -273,6 +282,7 @@ fn read_more<R: Wait, C: Clock, L: Link>(
     requires book { IsPassOf configured book.now pass.old }
     requires owns { OwnsConn (configured (opening_state book.now)) conn (seen pass.old) (mine pass.old) }
     requires none { HasNoBlock blocks.old.rest }
+    requires may { MayBeFed blocks.old }
     ensures book { IsPassOf configured book.now pass.new }
     ensures owns { OwnsConn (configured (opening_state book.now)) conn (seen pass.new) (mine pass.new) }
     ensures kept { (met pass.new ≡ met pass.old) × (parts pass.new ≡ parts pass.old) }
@@ -282,6 +292,7 @@ fn read_more<R: Wait, C: Clock, L: Link>(
         → (L.input link.old).faults ≡ from.input.faults
         → Rounds (C.tells clock.now) (configured (opening_state book.now)) conn from
         (point (seen pass.new) (mine pass.new) (L.input link.new) (L.output link.new)) blocks.new.rest result }
+    ensures little { HoldsLittle blocks.new }
 {
     match read_on(rt, book, pass, alloc, conn, clock, blocks, link) {
         Ok(Some(round)) => return Ok(round),
@@ -338,6 +349,7 @@ pub(crate) fn take_round<R: Wait, C: Clock, L: Link>(
 ) -> Result<Round, Stop>
     requires book { IsPassOf configured book.now pass.old }
     requires owns { OwnsConn (configured (opening_state book.now)) conn (seen pass.old) (mine pass.old) }
+    requires little { HoldsLittle blocks.old }
     ensures book { IsPassOf configured book.now pass.new }
     ensures owns { OwnsConn (configured (opening_state book.now)) conn (seen pass.new) (mine pass.new) }
     ensures kept { (met pass.new ≡ met pass.old) × (parts pass.new ≡ parts pass.old) }
@@ -347,6 +359,7 @@ pub(crate) fn take_round<R: Wait, C: Clock, L: Link>(
         → (L.input link.old).faults ≡ from.input.faults
         → Rounds (C.tells clock.now) (configured (opening_state book.now)) conn from
         (point (seen pass.new) (mine pass.new) (L.input link.new) (L.output link.new)) blocks.new.rest result }
+    ensures little { HoldsLittle blocks.new }
 {
     let standing = match hand_over(rt, book, pass, conn, clock, link) {
         Ok(standing) => standing,

@@ -1,7 +1,7 @@
 //! A link, with what was handed out and is not written to it yet.
 
 ghost use Rattle.std.specs.Prelude.{◌≡◌, IsTrue};
-ghost use Rattle.fs_conn.specs.Steps.{Puts, Clears, Fills, WritesFirst};
+ghost use Rattle.fs_conn.specs.Steps.{Puts, Clears, Fills, WritesFirst, MayBeFed, HoldsLittle};
 ghost use Rattle.fs_conn.specs.Wired.{IsUnread};
 
 use crate::stop::Stop;
@@ -19,7 +19,7 @@ pub(crate) enum Filled {
 }
 
 /// How many bytes a read takes at most.
-const MOST_BYTES: usize = 16_384;
+const MOST_BYTES: usize = 4_096;
 
 /// A link, with what was handed out and is not written to it yet. A contract sees both sides of the link.
 #[derive(Drop)]
@@ -58,12 +58,14 @@ impl<L: Link> Wire<'_, L> {
         self.unsent.write(self.link)
     }
 
-    /// Writes what is unsent, and then reads once.
+    /// Writes what is unsent, and then reads once. It is called only where more is needed for a block.
     pub(crate) fn fill(&mut self, blocks: &mut Blocks) -> Result<Filled, Stop>
         requires waits { IsTrue self.old.input.waits }
+        requires may { MayBeFed blocks.old }
         ensures fills { Fills self.old.input self.new.input blocks.old blocks.new result }
         ensures writes { WritesFirst self.old.output self.new.output self.old.unsent self.new.unsent result }
         ensures link { self.new.link ≡ self.old.link }
+        ensures little { HoldsLittle blocks.new }
     {
         self.write()?;
         let mut buf = [0; MOST_BYTES];

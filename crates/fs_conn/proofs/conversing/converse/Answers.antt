@@ -2,6 +2,7 @@ use Rattle.std.proofs.Common.{[], refl, ◌∙◌}
 use Rattle.fs_book.specs.Passes.{seen, mine}
 use Rattle.fs_conn.proofs.TalkLemmas.{stops_holds}
 use Rattle.fs_conn.proofs.ToldLemmas.{holds_first, ends_over, ends_memory, ends_write, ends_early}
+use Rattle.fs_conn.proofs.HeldLemmas.{held_new}
 use Rattle.fs_conn.proofs.conversing.converse.Goals as goal
 
 pub returns-in_default-clause-talks : goal.returns-in_default-clause-talks
@@ -20,6 +21,7 @@ rounds-init g c = record {
       rw c.in-Ok.ensures
       (holds_first _ _ _ (seen c.args.pass.now) (mine c.args.pass.now) _ _ c.requires.run c.requires.owns c.requires.fresh);
   faults = refl;
+  little = held_new _ c.in-Ok.ensures;
 }
 
 pub rounds-preserved : goal.rounds-preserved
@@ -31,6 +33,7 @@ rounds-preserved g c =
       parts_kept = c.take_round.ensures.kept.1 ∙ c.rounds.invariant.parts_kept;
       holds = on.0;
       faults = on.1;
+      little = c.take_round.ensures.little;
     }
 
 pub returns-in-Ok-Done-clause-talks : goal.returns-in-Ok-Done-clause-talks

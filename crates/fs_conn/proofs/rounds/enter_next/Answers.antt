@@ -9,6 +9,7 @@ use Rattle.fs_conn.specs.declared.end.End.TheVariants.{TooLong, BadLength}
 use Rattle.fs_machine.specs.Turned.{configured}
 use Rattle.fs_conn.specs.Talks.{point, Holds}
 use Rattle.fs_conn.proofs.ToldLemmas.{turns_handled, turns_hung, if_tried, lacks_none}
+use Rattle.fs_conn.proofs.HeldLemmas.{held_behind, held_tried}
 use Rattle.fs_conn.proofs.rounds.enter_next.Goals as goal
 
 pub returns-in-Block-clause-none : goal.returns-in-Block-clause-none
@@ -29,6 +30,15 @@ returns-in-Block-clause-turns g c = λ from h same.
     (subst (λ (bs : List ℕ). Holds (g.C.Clock.tells c.args.clock.now) (configured (opening_state c.args.book.now)) c.args.conn from
     (point (seen c.args.pass.now) (mine c.args.pass.now) (g.L.Port.input c.args.link.now)
     (g.L.Port.output c.args.link.now)) bs) split h))))
+
+pub returns-in-Block-clause-held : goal.returns-in-Block-clause-held
+returns-in-Block-clause-held g c =
+    let block = bytes_of c.in-Block.block in
+    let behind = c.next_block.follows.lender-at-none in
+    rw c.tried.ensures (held_tried behind c.handle.result
+    (held_behind c.args.blocks.now behind block
+    (subst (λ (s : Stream). HandsOut c.args.blocks.now s block) (sym c.next_block.follows.holds-at-none) c.in-Block.ensures.answer)
+    c.requires.little))
 
 pub returns-in-NeedMore-clause-none : goal.returns-in-NeedMore-clause-none
 returns-in-NeedMore-clause-none g c =

@@ -3,6 +3,7 @@ use Rattle.std.proofs.lemmas.Result.{err_from_is_err_and}
 use Rattle.fs_conn.specs.Playing.{seen, play_of}
 use Rattle.fs_conn.proofs.HereLemmas.{here_followed}
 use Rattle.fs_conn.proofs.TurnLemmas.{stands_first, concludes, stops_closing, stops_coming, came, stops_opening, stops_opened}
+use Rattle.fs_conn.proofs.HeldLemmas.{held_new}
 use Rattle.fs_conn.proofs.playing.Play.converse.Goals as goal
 
 pub returns-in_err-arrive-clause-converses : goal.returns-in_err-arrive-clause-converses
@@ -42,6 +43,7 @@ loop-blocks-init g c =
       here = here_followed (play_of mid) (play_of now) did.here c.in_ok-follow.ensures.does refl;
       free = c.in_ok-follow.ensures.free;
       lent = c.follow.ensures.reads.lent ∙ did.only.lent;
+      little = held_new _ c.in_ok-blocks.ensures;
     }
 
 pub returns-in_err-finish-in-Done-clause-converses : goal.returns-in_err-finish-in-Done-clause-converses

@@ -6,6 +6,7 @@ use Rattle.fs_frame.specs.Next.{HandsOut, bytes_of}
 use Rattle.fs_conn.specs.Playing.{seen, play_of}
 use Rattle.fs_conn.proofs.SendLemmas.{seen_over, only_same, writing_none, writes_first}
 use Rattle.fs_conn.proofs.HereLemmas.{here_commanded}
+use Rattle.fs_conn.proofs.HeldLemmas.{held_behind}
 use Rattle.fs_conn.proofs.TurnLemmas.{is_reading, stops_filling, stops_command, stops_following, goes_on_behind, goes_on_fed}
 use Rattle.fs_conn.proofs.TurnLemmas.{ends_by_farewell, ends_between, reads_failed, falls_behind, falls_fed}
 use Rattle.fs_conn.proofs.playing.Play.take_turn.Goals as goal
@@ -149,3 +150,24 @@ returns-in_ok-follow-in-Block-clause-here g c =
     here_commanded (play_of (seen c.args.self.now)) (play_of (seen c.command.new.self)) (play_of (seen c.follow.new.self))
     c.bytes.result.now
     c.requires.here did.does c.in_ok-follow-in-Block.ensures.does refl
+
+pub returns-in_err-command-in-Block-clause-little : goal.returns-in_err-command-in-Block-clause-little
+returns-in_err-command-in-Block-clause-little g c =
+    let block = bytes_of c.in-Block.block in
+    held_behind c.args.blocks.now _ block
+    (subst (λ (s : Stream). HandsOut c.args.blocks.now s block) (sym c.next_block.follows.holds-at-none) c.in-Block.ensures.answer)
+    c.requires.little
+
+pub returns-in_err-follow-in-Block-clause-little : goal.returns-in_err-follow-in-Block-clause-little
+returns-in_err-follow-in-Block-clause-little g c =
+    let block = bytes_of c.in-Block.block in
+    held_behind c.args.blocks.now _ block
+    (subst (λ (s : Stream). HandsOut c.args.blocks.now s block) (sym c.next_block.follows.holds-at-none) c.in-Block.ensures.answer)
+    c.requires.little
+
+pub returns-in_ok-follow-in-Block-clause-little : goal.returns-in_ok-follow-in-Block-clause-little
+returns-in_ok-follow-in-Block-clause-little g c =
+    let block = bytes_of c.in-Block.block in
+    held_behind c.args.blocks.now _ block
+    (subst (λ (s : Stream). HandsOut c.args.blocks.now s block) (sym c.next_block.follows.holds-at-none) c.in-Block.ensures.answer)
+    c.requires.little

@@ -14,11 +14,12 @@ use fs_text::{Memory, Txt};
 use std::alloc::Global;
 
 /// Answers `entries STEPS`, with `;` between them: `arrive`, `say CONNECTION LINE`, `take CONNECTION`,
-/// `read CONNECTION`, `leave CONNECTION` by the end of its input, `close CONNECTION` with all sent, `dialed SLOT` and
-/// `undialed SLOT` as there is a link to its controller or none, `job NUMBER`, `halt`, `hear CONNECTION COUNT`, by
-/// which so many frames are taken, `work SLOTS` with an entry for each slot, and `route SLOT CONNECTION LINE`, by which
-/// a slot is routed by a plan that was made before the line was said. It tells what `bridging` tells, refusals, and the
-/// frames that are taken: those of `read` whole, those of `hear` in short.
+/// `read CONNECTION`, `leave CONNECTION` by the end of its input, `close CONNECTION` with all sent, `fail CONNECTION`
+/// whose link has failed, `dialed SLOT` and `undialed SLOT` as there is a link to its controller or none, `job NUMBER`,
+/// `halt`, `hear CONNECTION COUNT`, by which so many frames are taken, `work SLOTS` with an entry for each slot,
+/// `route SLOT CONNECTION LINE`, by which a slot is routed by a plan that was made before the line was said,
+/// `churn COUNT SLOT CONNECTION EVERY`, and `ring`. It tells what `bridging` tells, refusals, and the frames that are
+/// taken: those of `read` whole, those of `hear` in short.
 pub(crate) fn tell_entries(table: &Table, steps: &str, answer: &mut Answer) {
     if let Some(mut machine) = machine_of(table, answer) {
         for step in steps.split(';') {
@@ -49,6 +50,7 @@ fn tell_step(machine: &mut Machine, step: &str, answer: &mut Answer) {
         ),
         "leave" => close(machine, rest, Closing::EndOfInput, answer),
         "close" => close(machine, rest, Closing::Sent, answer),
+        "fail" => close(machine, rest, Closing::Failed, answer),
         "dialed" => tell_dialed(machine, rest, true, answer),
         "undialed" => tell_dialed(machine, rest, false, answer),
         "halt" => tell_act(machine, Act::Halt, answer),
@@ -56,6 +58,8 @@ fn tell_step(machine: &mut Machine, step: &str, answer: &mut Answer) {
         "route" => route(machine, rest, answer),
         "read" => read(machine, rest, answer),
         "hear" => hear(machine, rest, answer),
+        "churn" => churn(machine, rest, answer),
+        "ring" => tell_ring(machine, answer),
         _ => answer.line("no step"),
     }
 }
@@ -196,4 +200,33 @@ fn hear_frame(machine: &mut Machine, conn: u32, answer: &mut Answer) {
     if let Some(Reply::Frame(frame)) = tell_entry(machine, &entry, answer) {
         tell_heard(frame.as_bytes(), answer);
     }
+}
+
+// Makes the entry of a slot so many times, be it refused or not, and behind each so manieth of them takes a frame of a
+// connection, if one waits. All that is told is how many frames were taken.
+fn churn(machine: &mut Machine, rest: &str, answer: &mut Answer) {
+    let (count, rest) = cut(rest);
+    let (slot, rest) = cut(rest);
+    let (conn, every) = cut(rest);
+    let (slot, conn, every) = (slot_of(slot), conn_of(conn), number_of(every));
+    let mut taken: u64 = 0;
+    for before in 0..number_of(count) {
+        enter(machine, Act::Work { slot });
+        if every > 0 && before % every == every - 1 && enter(machine, Act::Take { conn }) {
+            taken = taken.saturating_add(1);
+        }
+    }
+    answer.told(format_args!("{taken} frames taken"));
+}
+
+// Makes an entry. Answers whether it was taken.
+fn enter(machine: &mut Machine, act: Act) -> bool {
+    machine.step(&Entry { moment: 0, act }).is_ok()
+}
+
+// Tells how many events wait for connections, and in how many places they are kept.
+fn tell_ring(machine: &Machine, answer: &mut Answer) {
+    let ring = machine.ring();
+    let (held, slots) = (ring.held(), ring.slots());
+    answer.told(format_args!("{held} events in {slots} places"));
 }

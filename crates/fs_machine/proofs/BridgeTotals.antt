@@ -13,6 +13,7 @@ use Rattle.fs_bridge.specs.declared.row.Row.{Row}
 use Rattle.fs_bridge.specs.Bridges.{has_number}
 use Rattle.fs_bridge.specs.Hangups.{IsOneOf}
 use Rattle.fs_bridge.proofs.RowLemmas.{one_if}
+use Rattle.fs_event.specs.Rings.{no_events}
 use Rattle.fs_state.specs.declared.event.Detail.{Detail}
 use Rattle.fs_state.specs.declared.event.Detail.TheVariants as detail
 use Rattle.fs_state.specs.declared.event.Event.{Event}
@@ -190,7 +191,7 @@ bridges_are_counted config entries = record {
 }
   where
     m : View
-    m = record { config = config; journal = entries; spare = 0 }
+    m = record { config = config; journal = entries; spare = 0; ring = no_events }
 
     begins_told : count_by (is_named ChannelBridge) (events_in config entries) ≡ (run_from (empty config) entries).bridges.drawn
     begins_told = begun_all (events_in config entries) (run_from (empty config) entries) (run_has_told config entries)

@@ -1,6 +1,7 @@
 //! The events that are still to be read.
 
-ghost use Rattle.std.specs.Prelude.{◌≡◌, ◌+◌, ◌-◌, ◌*◌, ◌^◌, ◌<◌, ◌≤◌, ◌++◌, ◌∷◌, [], All, length, filter, slice_get, slice_set};
+ghost use Rattle.std.specs.Prelude.{◌≡◌, ◌+◌, ◌-◌, ◌*◌, ◌^◌, ◌<◌, ◌≤◌, ◌++◌, ◌∷◌, []};
+ghost use Rattle.std.specs.Prelude.{length, filter, slice_get, slice_set};
 ghost use Rattle.std.specs.Prelude.{IfOk, OnOk, OnErr, Some, IfSome, IfNone, true, false};
 ghost use Rattle.std.specs.Option.{option_copied, option_and_then};
 ghost use Rattle.fs_event.specs.declared.place.Place.{Place};
@@ -190,7 +191,8 @@ fn event_at<T: Drop>(places: &HeapCircularBuffer<Place<T>>, index: usize) -> Opt
 // Counts one reader less of the event of a number. Answers whether the event went.
 fn read_once<T: Drop>(places: &mut HeapCircularBuffer<Place<T>>, number: u64) -> bool
     requires { spec_places.IsOrdered places.old.items }
-    ensures pairs { spec_places.pairs_of places.new.items ≡ spec.released number (spec_places.pairs_of places.old.items) }
+    ensures pairs { spec_places.pairs_of places.new.items
+        ≡ spec.released number (spec_places.pairs_of places.old.items) }
     ensures order { spec_places.IsOrdered places.new.items }
     ensures count { length (spec_places.pairs_of places.new.items) + spec_places.one_if result
         ≡ length (spec_places.pairs_of places.old.items) }
@@ -207,7 +209,8 @@ fn read_once<T: Drop>(places: &mut HeapCircularBuffer<Place<T>>, number: u64) ->
 fn read_at<T: Drop>(places: &mut HeapCircularBuffer<Place<T>>, index: usize) -> bool
     ensures left { (place : Place T) → slice_get places.old.items index ≡ Some place
         → places.new ≡ buffer (slice_set places.old.items index (spec_places.read_once place)) places.old.capacity }
-    ensures gone { (place : Place T) → slice_get places.old.items index ≡ Some place → result ≡ spec_places.is_last place }
+    ensures gone { (place : Place T) → slice_get places.old.items index ≡ Some place
+        → result ≡ spec_places.is_last place }
 {
     match places.get_mut(index) {
         Some(place) => place.read_once(),

@@ -150,7 +150,8 @@ pub fn frame(alloc: Global, event: &Event) -> Result<Txt, Memory>
 fn push_value(text: &mut Vec<u8>, value: &[u8]) -> Result<(), Memory>
     ensures { OnOk result (text.new.items ≡ text.old.items ++ spec.escaped_value value.now) }
 {
-    text.extend_from_slice(b": ")?;
+    text.push(b':')?;
+    text.push(b' ')?;
     push_escaped(text, value)?;
     text.push(b'\n')?;
     Ok(())

@@ -1,5 +1,5 @@
 -- What an entry gives, as it is delivered: the events that it posts are held, and then its four parts are put behind what waits.
-use Rattle.std.proofs.Common.{◌≡◌, ℕ, ◌+◌, ◌-◌, ◌^◌, ◌<◌, ◌≤◌, min, List, [], ◌∷◌, ◌++◌, length, Option, refl, sym, ap, subst, ◌∙◌, arith}
+use Rattle.std.proofs.Common.{◌≡◌, ℕ, ◌+◌, ◌-◌, ◌^◌, min, List, [], ◌++◌, Option, sym, ap, subst, ◌∙◌, arith}
 use Rattle.std.proofs.lemmas.List.{map-append}
 use Rattle.fs_text.specs.Texts.{Text}
 use Rattle.fs_event.specs.Rings.{Pair, IsSound, AreBelow}
@@ -8,12 +8,12 @@ use Rattle.fs_state.specs.declared.conn.Conn.{Conn}
 use Rattle.fs_state.specs.declared.gift.Given.{Given}
 use Rattle.fs_state.specs.Frames.{Frames, Gift}
 use Rattle.fs_state.specs.Outboxes.{delivered, frames_given, HaveRoom, AreWithin}
-use Rattle.fs_state.specs.Waiting.{Outbox, Mail, outboxes_in, gift_in, gifts_in, times_in, times_given, readers_of, waiting_given, mail_delivered}
-use Rattle.fs_state.specs.Waiting.{Posted, gifts_of_posts, with_events_held, AreRead, AreReplies, AreDelivered, AreCounted, AreBehind}
+use Rattle.fs_state.specs.Waiting.{Outbox, Mail, outboxes_in, gift_in, gifts_in, waiting_given, mail_delivered}
+use Rattle.fs_state.specs.Waiting.{Posted, gifts_of_posts, with_events_held, AreRead, AreDelivered, AreCounted, AreBehind}
 use Rattle.fs_state.proofs.HeldLemmas.{readers_held, texts_old, texts_new, sound_held, below_held}
-use Rattle.fs_state.proofs.MailLemmas.{outboxes_alike, gifts_alike, replies_alike, AreOwed, IsDelivered, all_delivered, mail_append}
+use Rattle.fs_state.proofs.MailLemmas.{outboxes_alike, gifts_alike, replies_alike, AreOwed, all_delivered, mail_append}
 use Rattle.fs_state.proofs.MailLemmas.{given_append, waiting_append, frames_waiting, below_delivered, room_delivered, room_waiting, within_delivered}
-use Rattle.fs_state.proofs.OutboxLemmas.{room_less, given_append as frames_append}
+use Rattle.fs_state.proofs.OutboxLemmas.{given_append as frames_append}
 
 -- the connections that stand at seats
 abbrev Seats : Type 0

@@ -3,16 +3,16 @@ use Rattle.std.proofs.Common.{◌≡◌, ◌≢◌, ℕ, zero, suc, ◌+◌, ◌
 use Rattle.std.proofs.Common.{refl, sym, ap, subst, ◌∙◌, arith, if◌then◌else◌, All, ◌⊎◌, inl, inr, unwrap_or}
 use Rattle.std.specs.Prelude.{nat_le, nat_lt}
 use Rattle.std.specs.Option.{option_map, option_or}
-use Rattle.std.specs.List.{AllPairs, find}
+use Rattle.std.specs.List.{find}
 use Rattle.std.proofs.lemmas.Bool.{eqb-true, cases_eq, false_from_ne_true, leb-true, ltb-true, ltb-false}
 use Rattle.std.proofs.lemmas.Bool.Decides.{nat_tests}
 use Rattle.std.proofs.lemmas.List.Folds.{find-append}
 use Rattle.std.proofs.lemmas.List.Sums.{sum_by-cons}
-use Rattle.std.proofs.lemmas.List.Elements.{All-cons, All-head, All-tail, All-push, All-weaker}
+use Rattle.std.proofs.lemmas.List.Elements.{All-cons, All-head, All-tail, All-push}
 use Rattle.std.proofs.lemmas.List.Kept.{AllPairs-cons}
 use Rattle.std.proofs.lemmas.List.Quantifiers.{all_pairs_push}
 use Rattle.fs_text.specs.Texts.{Text}
-use Rattle.fs_event.specs.Rings.{Pair, IsSound, AreBelow, event_of, has_number, released, pushed, less_one}
+use Rattle.fs_event.specs.Rings.{Pair, IsSound, AreBelow, event_of, has_number, released, less_one}
 use Rattle.fs_event.proofs.ReleaseLemmas.{one_is_released, others_are_held, numbers_stay_below, read_left}
 use Rattle.fs_state.specs.declared.outbox.Waiting.{Waiting}
 use Rattle.fs_state.specs.declared.outbox.Waiting.TheVariants as waiting

@@ -1,7 +1,7 @@
 -- The numbers of events that are listed for connections: with the texts of the events they come to the frames that are posted, and each
 -- event has as many readers as its number is listed.
-use Rattle.std.proofs.Common.{◌≡◌, ◌≢◌, ℕ, zero, suc, ◌+◌, ◌-◌, ◌<◌, ◌≤◌, ◌==◌, Bool, true, false, cond, List, [], ◌∷◌, ◌++◌, length, map}
-use Rattle.std.proofs.Common.{take, drop, get_or, Option, None, Some, refl, sym, ap, subst, ◌∙◌, arith, if◌then◌else◌, All, ◌^◌, min, ◌⊎◌, inl, inr}
+use Rattle.std.proofs.Common.{◌≡◌, ℕ, zero, suc, ◌+◌, ◌-◌, ◌<◌, ◌≤◌, ◌==◌, Bool, true, false, cond, List, [], ◌∷◌, ◌++◌, length, map}
+use Rattle.std.proofs.Common.{take, get_or, Option, None, Some, refl, sym, ap, subst, ◌∙◌, arith, if◌then◌else◌, All, ◌^◌, min, ◌⊎◌, inl, inr}
 use Rattle.std.specs.Prelude.{filter}
 use Rattle.std.specs.List.{AllPairs, slice_set, find}
 use Rattle.std.proofs.Math.ListN.{get_or-map as at_index}
@@ -10,7 +10,7 @@ use Rattle.std.proofs.lemmas.Bool.Decides.{nat_tests}
 use Rattle.std.proofs.lemmas.List.{get_or-map, length-map, map-append, map-set, take-map}
 use Rattle.std.proofs.lemmas.List.Elements.{All-nil, All-cons, All-head, All-tail, All-filter, All-take}
 use Rattle.std.proofs.lemmas.List.Kept.{AllPairs-cons}
-use Rattle.std.proofs.lemmas.List.Sums.{sum_by-append, sum_by-cons, sum_by_push}
+use Rattle.std.proofs.lemmas.List.Sums.{sum_by-cons, sum_by_push}
 use Rattle.std.proofs.Math.Seq.{map-set_same}
 use Rattle.fs_text.specs.Texts.{Text}
 use Rattle.fs_event.specs.declared.event.Event.{Event as Telling}
@@ -18,16 +18,15 @@ use Rattle.fs_event.specs.Rings.{Pair, has_number}
 use Rattle.fs_seats.specs.declared.numbered.Numbered.{Numbered}
 use Rattle.fs_state.specs.declared.conn.Conn.{Conn}
 use Rattle.fs_state.specs.declared.gift.Given.{Given}
-use Rattle.fs_state.specs.declared.outbox.Waiting.{Waiting}
 use Rattle.fs_state.specs.declared.outbox.Waiting.TheVariants as waiting
 use Rattle.fs_state.specs.declared.post.Post.{Post}
-use Rattle.fs_state.specs.Frames.{Frames, Gift, Event}
+use Rattle.fs_state.specs.Frames.{Gift, Event}
 use Rattle.fs_state.specs.Posted.{event_of, events_of, unread}
 use Rattle.fs_state.specs.Posting.{post_of, posts_numbered, is_wanted, is_taken, frames_at, numbers_at, frames_within, numbers_within, gifts_of, lists_of}
 use Rattle.fs_state.specs.Posting.{with_post, with_lists, posted_to, posted_at}
 use Rattle.fs_state.specs.Switch.{Switch}
-use Rattle.fs_state.specs.Waiting.{Outbox, text_in, frame_in, frames_in, gifts_in, is_of, times, times_given, readers_of, AreOrdered, AreCounted, AreNumbered}
-use Rattle.fs_state.proofs.HeldLemmas.{one_if, same_number, times_cons, order_behind}
+use Rattle.fs_state.specs.Waiting.{Outbox, text_in, frames_in, gifts_in, is_of, times, times_given, readers_of, AreOrdered, AreCounted, AreNumbered}
+use Rattle.fs_state.proofs.HeldLemmas.{one_if, same_number, order_behind}
 use Rattle.fs_state.proofs.MailLemmas.{gifts_alike, given_append}
 
 -- ---- posts that are told are in order, and nobody is to read them yet

@@ -1,12 +1,12 @@
 -- What waits for connections comes to the frames by definition, and each event is held for as many readers as its number waits for.
-use Rattle.std.proofs.Common.{◌≡◌, ◌≢◌, ℕ, zero, suc, ◌+◌, ◌-◌, ◌^◌, ◌<◌, ◌≤◌, ◌==◌, min, Bool, true, false, cond, List, [], ◌∷◌, ◌++◌, length, map}
-use Rattle.std.proofs.Common.{drop, get_or, Option, None, Some, refl, sym, ap, subst, ◌∙◌, arith, if◌then◌else◌, All, ◌⊎◌, inl, inr, replicate}
+use Rattle.std.proofs.Common.{◌≡◌, ℕ, zero, suc, ◌+◌, ◌-◌, ◌<◌, ◌≤◌, Bool, true, false, cond, List, [], ◌∷◌, ◌++◌, length, map}
+use Rattle.std.proofs.Common.{drop, get_or, Option, None, Some, refl, sym, ap, subst, ◌∙◌, arith, if◌then◌else◌, replicate}
 use Rattle.std.specs.Prelude.{nat_lt, slice_get}
 use Rattle.std.specs.Option.{option_map, option_and_then}
-use Rattle.std.specs.List.{slice_set, sum_by, count_by}
+use Rattle.std.specs.List.{slice_set}
 use Rattle.std.proofs.Math.ListN.{get_or-map as at_index}
 use Rattle.std.proofs.lemmas.Bool.{ltb-true, ltb-false}
-use Rattle.std.proofs.lemmas.List.{map-set, get_or-map, set_past, length-set, length-map, length-append, map-append, drop-map}
+use Rattle.std.proofs.lemmas.List.{map-set, get_or-map, set_past, length-map, length-append, map-append, drop-map}
 use Rattle.std.proofs.lemmas.List.Sums.{sum_by-cons, sum_by-append, sum_by-set}
 use Rattle.fs_text.specs.Texts.{Text}
 use Rattle.fs_event.specs.Rings.{Pair, IsSound, AreBelow}
@@ -16,13 +16,13 @@ use Rattle.fs_state.specs.declared.conn.Conn.{Conn}
 use Rattle.fs_state.specs.declared.gift.Given.{Given}
 use Rattle.fs_state.specs.declared.outbox.Waiting.{Waiting}
 use Rattle.fs_state.specs.declared.outbox.Waiting.TheVariants as waiting
-use Rattle.fs_state.specs.Frames.{Outgoing, Frames, Gift, Reply, Event, text_of, is_event, events_in}
-use Rattle.fs_state.specs.Outboxes.{outbox_at, first_at, with_frames, with_frames_at, with_gift_delivered, delivered, without_first_frame, without_frames}
+use Rattle.fs_state.specs.Frames.{Frames, Gift, Event, text_of, is_event, events_in}
+use Rattle.fs_state.specs.Outboxes.{outbox_at, first_at, with_frames, with_frames_at, delivered, without_first_frame}
 use Rattle.fs_state.specs.Outboxes.{frames_given, HaveRoom, AreWithin}
 use Rattle.fs_state.specs.Waiting.{Outbox, Mail, text_in, frame_in, frames_in, outboxes_in, gift_in, gifts_in, is_of, is_number, numbers_in, times, times_in}
 use Rattle.fs_state.specs.Waiting.{times_given, readers_of, waiting_given, gone, all_gone, first_gone, waiting_at, known_text, first_text, without_first}
 use Rattle.fs_state.specs.Waiting.{with_waiting, mail_delivered, AreRead, AreReplies}
-use Rattle.fs_state.proofs.HeldLemmas.{one_if, same_number, text_held, times_cons, readers_gone, texts_gone, sound_gone, below_gone}
+use Rattle.fs_state.proofs.HeldLemmas.{one_if, same_number, text_held, times_cons, readers_gone, texts_gone, below_gone}
 use Rattle.fs_state.proofs.HeldLemmas.{readers_all_gone, texts_all_gone, sound_all_gone, below_all_gone}
 use Rattle.fs_state.proofs.OutboxLemmas.{room_less, room_with, within_given, within_less}
 

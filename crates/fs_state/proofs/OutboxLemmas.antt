@@ -14,8 +14,8 @@ use Rattle.fs_seats.specs.Rows.{seat_of}
 use Rattle.fs_state.specs.declared.conn.Conn.{Conn}
 use Rattle.fs_state.specs.Frames.{Gift}
 use Rattle.fs_state.specs.Frames.{Frames}
-use Rattle.fs_state.specs.Outboxes.{outbox_at, with_outbox, with_gift_delivered, outboxes_after, with_frames_at, frames_given}
-use Rattle.fs_state.specs.Outboxes.{delivered, HaveRoom, AreWithin, no_outboxes, without_first_frame, without_frames, with_frames}
+use Rattle.fs_state.specs.Outboxes.{outbox_at, with_gift_delivered, outboxes_after, with_frames_at, frames_given}
+use Rattle.fs_state.specs.Outboxes.{delivered, HaveRoom, AreWithin}
 
 -- less fits where more does
 pub room_less : {T : Type 0} → (outboxes : List (List T)) (n m : ℕ) → n ≤ m → HaveRoom outboxes m → HaveRoom outboxes n

@@ -23,7 +23,6 @@ use Rattle.fs_state.specs.declared.event.Event.{Event}
 use Rattle.fs_state.specs.Frames.{Gift}
 use Rattle.fs_state.specs.Frames as outgoing
 use Rattle.fs_state.specs.declared.post.Post.{Post}
-use Rattle.fs_state.specs.Frames.{Frames}
 use Rattle.fs_state.specs.Losses.{Losses}
 use Rattle.fs_state.specs.Switch.{Switch}
 use Rattle.fs_state.specs.declared.outbox.Waiting.TheVariants as waiting
@@ -31,7 +30,7 @@ use Rattle.fs_state.specs.Waiting.{Outbox}
 use Rattle.fs_state.specs.Posting.{subclass_in, telling_of, tellings_from, tellings, wanted_by, posts_of, wanted_of, posts_at, posts_from, with_loss_of}
 use Rattle.fs_state.specs.Posting.{losses_from, posts, losses_after, with_posts, wants_at, is_wanted, hears_at, is_heard, AreDeaf, told_of}
 use Rattle.fs_state.specs.Posting.{post_of, posts_numbered, posts_told, is_taken, frames_at, numbers_at, room_for, frames_within, numbers_within}
-use Rattle.fs_state.specs.Posting.{gifts_of, lists_of, with_post, with_lost, with_lists}
+use Rattle.fs_state.specs.Posting.{gifts_of, with_post, with_lost}
 use Rattle.fs_state.specs.Posting.{left_for, posted_to, posted_at, posted_over}
 
 -- ---- what nobody hears nobody wants

@@ -1,5 +1,5 @@
 -- The frames that wait for connections.
-use Rattle.std.specs.Prelude.{ℕ, ◌+◌, ◌<◌, ◌≤◌, ◌^◌, List, [], ◌∷◌, ◌++◌, length, drop, replicate}
+use Rattle.std.specs.Prelude.{◌≡◌, ℕ, ◌+◌, ◌<◌, ◌≤◌, ◌^◌, List, [], ◌∷◌, ◌++◌, length, drop, replicate}
 use Rattle.std.specs.Prelude.{sum_by, get_or, Option, None, Some}
 use Rattle.std.specs.List.{slice_get, slice_set, All}
 use Rattle.fs_event.specs.Rings.{no_events}
@@ -10,7 +10,7 @@ use Rattle.fs_state.specs.declared.delta.Delta.{Delta}
 use Rattle.fs_state.specs.declared.delta.OutboxChange.{OutboxChange}
 use Rattle.fs_state.specs.declared.delta.OutboxChange.TheVariants.{Unchanged, Taken, Cleared}
 use Rattle.fs_state.specs.Frames.{Outgoing, Gift}
-use Rattle.fs_state.specs.Waiting.{Waits, gifts_of_posts}
+use Rattle.fs_state.specs.Waiting.{Waits, gifts_of_posts, no_posts}
 pub use Rattle.fs_state.specs.Frames.{Frames, text_of, texts_of, is_event, events_in}
 
 -- so many outboxes in which nothing waits
@@ -70,6 +70,13 @@ delivered conns (gift ∷ gifts) outboxes = delivered conns gifts (with_gift_del
 -- all that a change gives, in order
 abbrev pub all_of : Delta → List Gift
 all_of d = d.replies ++ (gifts_of_posts d.posted ++ (d.late ++ d.notices))
+
+-- a change gives nothing
+pub record GivesNothing (d : Delta) : Type 0 where
+  pub replies : d.replies ≡ []
+  pub posted : d.posted ≡ no_posts
+  pub late : d.late ≡ []
+  pub notices : d.notices ≡ []
 
 -- how many frames are given
 abbrev pub frames_given : List Gift → ℕ

@@ -1,10 +1,10 @@
 -- What waits for connections, as it is kept: replies as they are, and events by their numbers, with a ring of the events.
-use Rattle.std.specs.Prelude.{◌≡◌, ℕ, ◌+◌, ◌-◌, ◌^◌, ◌<◌, ◌≤◌, ◌==◌, min, drop, Bool, true, false, List, [], map, length, All, count_by, sum_by, replicate, nat_lt, ◌++◌, ◌∷◌, if◌then◌else◌, get_or, ◌≢◌}
+use Rattle.std.specs.Prelude.{◌≡◌, ℕ, ◌+◌, ◌-◌, ◌^◌, ◌<◌, ◌≤◌, ◌==◌, min, drop, Bool, true, false, List, [], map, length, All, count_by, sum_by, nat_lt, ◌++◌, ◌∷◌, if◌then◌else◌, get_or}
 use Rattle.std.specs.Prelude.{Option, None, Some, unwrap_or, slice_get}
 use Rattle.std.specs.List.{find, AllPairs, slice_set}
 use Rattle.std.specs.Option.{option_and_then}
 use Rattle.fs_text.specs.Texts.{Text}
-use Rattle.fs_event.specs.Rings.{released, pushed, Pair, Events, no_events, event_of, has_number, AreBelow}
+use Rattle.fs_event.specs.Rings.{released, Pair, Events, event_of, has_number, AreBelow}
 use Rattle.fs_seats.specs.declared.numbered.Numbered.{Numbered}
 use Rattle.fs_seats.specs.Rows.{seat_of}
 use Rattle.fs_state.specs.declared.conn.Conn.{Conn}

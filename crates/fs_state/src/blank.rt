@@ -1,5 +1,4 @@
 //! A change that is yet to be filled in.
-ghost use Rattle.std.specs.Prelude.{◌≡◌, IfOk};
 ghost use Rattle.fs_state.specs.Drafts.{IsBlank};
 
 use crate::delta::{Delta, OutboxChange};

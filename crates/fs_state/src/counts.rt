@@ -18,7 +18,7 @@ pub struct Counts {
 }
 
 impl Model for Counts {
-    ghost use Rattle.std.specs.Prelude.{◌≡◌, length};
+    ghost use Rattle.std.specs.Prelude.{◌≡◌};
     ghost use Rattle.fs_state.specs.Counts.{Tallies};
 
     ghost Value = { Tallies };

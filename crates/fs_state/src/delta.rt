@@ -63,8 +63,8 @@ pub struct Delta {
 }
 
 impl Delta {
-    ghost use Rattle.std.specs.Prelude.{◌≡◌, ◌-◌, ◌^◌, min};
-    ghost use Rattle.fs_state.specs.Outboxes.{all_of, frames_given};
+    ghost use Rattle.std.specs.Prelude.{◌≡◌, ◌-◌, ◌^◌, min, true};
+    ghost use Rattle.fs_state.specs.Outboxes.{all_of, frames_given, GivesNothing};
 
     /// How many frames are given, as far as 64 bits go.
     pub(crate) fn frames_given(&self) -> usize
@@ -73,6 +73,16 @@ impl Delta {
         let behind = self.late.frames().saturating_add(self.notices.frames());
         let posted = self.posted.frames().saturating_add(behind);
         self.replies.frames().saturating_add(posted)
+    }
+
+    /// Whether nothing is given.
+    pub(crate) fn gives_nothing(&self) -> bool
+        ensures { result ≡ true → GivesNothing self.now }
+    {
+        self.replies.is_empty()
+            && self.posted.is_empty()
+            && self.late.is_empty()
+            && self.notices.is_empty()
     }
 }
 

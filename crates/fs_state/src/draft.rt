@@ -10,7 +10,7 @@ ghost use Rattle.fs_state.specs.Drawn as numbers;
 ghost use Rattle.fs_state.specs.Switch as spec;
 ghost use Rattle.fs_bridge.specs.Bridges.{BridgeRows, has_number_left};
 ghost use Rattle.fs_state.specs.Drafts.{Brings, after, drafted, chan_in, with_chan_in, chan_taken_back};
-ghost use Rattle.std.specs.Prelude.{◌-◌, ◌^◌, ◌<◌, min};
+ghost use Rattle.std.specs.Prelude.{◌-◌, ◌^◌, ◌<◌};
 ghost use Rattle.fs_state.specs.Drafts.{with_bridges_in, Fits};
 ghost use Rattle.fs_state.specs.Waiting.{AreNumbered};
 

@@ -1,5 +1,5 @@
 //! What an entry gives to connections.
-ghost use Rattle.std.specs.Prelude.{◌≡◌, ◌-◌, ◌^◌, min, [], ◌∷◌, ◌++◌, OnOk, OnErr};
+ghost use Rattle.std.specs.Prelude.{◌≡◌, ◌-◌, ◌^◌, min, true, [], ◌∷◌, ◌++◌, OnOk, OnErr};
 ghost use Rattle.fs_state.specs.Outboxes.{frames_given};
 ghost use Rattle.fs_state.specs.Switch.{gift_of};
 ghost use Rattle.fs_state.specs.Waiting as spec;
@@ -73,6 +73,13 @@ impl Gifts {
         waiting.push(Waiting::Reply(text))?;
         self.gifts.push(Given { conn, waiting })?;
         Ok(())
+    }
+
+    /// Whether there is nothing.
+    pub(crate) fn is_empty(&self) -> bool
+        ensures { result ≡ true → self.now ≡ [] }
+    {
+        self.gifts.is_empty()
     }
 
     /// How many frames are given, as far as 64 bits go.

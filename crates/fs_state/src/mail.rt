@@ -1,5 +1,5 @@
 //! What waits for connections, and the events of which that tells.
-ghost use Rattle.std.specs.Prelude.{◌≡◌, ◌≤◌, ◌+◌, ◌<◌, ◌^◌, [], length, slice_get};
+ghost use Rattle.std.specs.Prelude.{◌≡◌, ◌≤◌, ◌+◌, ◌<◌, [], length};
 ghost use Rattle.std.specs.Option.{option_copied};
 ghost use Rattle.fs_event.specs.Rings.{AreBelow};
 ghost use Rattle.fs_state.specs.Outboxes.{HaveRoom, frames_given};
@@ -57,8 +57,8 @@ impl Mail {
         self.deliver(conns, &mut gifts.gifts);
     }
 
-    /// Puts these behind what waits for their connections, without memory. What is given to a connection that is not there
-    /// is dropped. None are left.
+    /// Puts these behind what waits for their connections, without memory. What is given to a connection that is not
+    /// there is dropped. None are left.
     pub fn deliver(&mut self, conns: &Seats<Numbered<Conn>>, all: &mut Vec<Given>)
         requires { HaveRoom self.old.outboxes.items (spec.waiting_given all.old.items) }
         ensures mail { mail_of self.new ≡ spec.mail_delivered conns.now all.old.items (mail_of self.old) }

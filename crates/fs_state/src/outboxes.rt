@@ -17,8 +17,8 @@ use fs_text::{Memory, Txt};
 use std::alloc::Global;
 use std::marker::Model;
 
-/// The frames that wait for connections, in the order of the connections' seats. Those of events are held in a ring, each
-/// once; what waits is their numbers.
+/// The frames that wait for connections, in the order of the connections' seats. Those of events are held in a ring,
+/// each once; what waits is their numbers.
 ///
 /// A contract sees the frames as lists, and beside them the ring.
 #[derive(Drop)]
@@ -85,7 +85,8 @@ impl Outboxes {
         self.mail.first(seat)
     }
 
-    /// The events that wait, each once, with how many are still to read it. They are those whose numbers wait, so often.
+    /// The events that wait, each once, with how many are still to read it. They are those whose numbers wait, so
+    /// often.
     pub fn ring(&self) -> &Ring<Txt>
         ensures ring { result.now ≡ self.now.ring }
         ensures held { AreHeld self.now.frames self.now.ring.pairs }
@@ -151,6 +152,23 @@ impl Outboxes {
     /// Puts all that is given behind the frames of the connections that are there, without memory; the rest is dropped.
     /// Each event that is posted is held, if somebody gets it. Nothing is left to be given.
     pub(crate) fn deliver(&mut self, conns: &Seats<Numbered<Conn>>, delta: &mut Delta)
+        requires room { spec.HaveRoom self.old.frames (spec.frames_given (spec.all_of delta.old)) }
+        requires spare { events_posted delta.old ≤ self.old.ring.spare }
+        requires behind { AreBehind self.old.ring.pairs delta.old.posted.events }
+        ensures frames { self.new.frames ≡ spec.delivered conns.now (spec.all_of delta.old) self.old.frames }
+        ensures below { (end : ℕ) → AreBelow end self.old.ring.pairs → AreBelow end delta.old.posted.events
+            → AreBelow end self.new.ring.pairs }
+        ensures spare { self.old.ring.spare ≤ self.new.ring.spare + events_posted delta.old }
+        ensures left { delta.new ≡ record delta.old { replies = []; posted = no_posts; late = []; notices = [] } }
+    {
+        if delta.gives_nothing() {
+            return;
+        }
+        self.deliver_all(conns, delta);
+    }
+
+    /// The same, whether anything is given or not.
+    fn deliver_all(&mut self, conns: &Seats<Numbered<Conn>>, delta: &mut Delta)
         requires room { spec.HaveRoom self.old.frames (spec.frames_given (spec.all_of delta.old)) }
         requires spare { events_posted delta.old ≤ self.old.ring.spare }
         requires behind { AreBehind self.old.ring.pairs delta.old.posted.events }

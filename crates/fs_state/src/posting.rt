@@ -1,5 +1,5 @@
 //! What an entry posts of its events.
-ghost use Rattle.std.specs.Prelude.{◌≡◌, [], ◌+◌, ◌-◌, ◌^◌, ◌≤◌, ◌++◌, ℕ, true, is_some, count_by, length, map, take};
+ghost use Rattle.std.specs.Prelude.{◌≡◌, ◌+◌, ◌-◌, ◌^◌, ◌≤◌, ◌++◌, ℕ, true, is_some, count_by, length, map, take};
 ghost use Rattle.std.specs.Prelude.{option_map, IfOk, OnOk};
 ghost use Rattle.fs_event.specs.Texts.{frame};
 ghost use Rattle.fs_filter.specs.Subscriptions.{lets_through};
@@ -94,8 +94,8 @@ impl<'a> Draft<'a> {
         self.tell_all(text, seats)
     }
 
-    /// The same, event by event. They are numbered by how many there were before; where 64 bits do not suffice for that, it
-    /// is refused as for want of memory.
+    /// The same, event by event. They are numbered by how many there were before; where 64 bits do not suffice for
+    /// that, it is refused as for want of memory.
     fn tell_all(&self, text: &mut EventText, seats: usize) -> Result<Vec<Post>, Memory>
         requires within { seats ≤ length self.now.base.conns }
         requires empty { IsEmptyFrom seats self.now.base.conns }
@@ -203,8 +203,8 @@ impl<'a> Draft<'a> {
 
     // ---- who is told
 
-    /// The connections that were there before the entry are posted what they want of these, one after another: the numbers
-    /// of those events are listed for each.
+    /// The connections that were there before the entry are posted what they want of these, one after another: the
+    /// numbers of those events are listed for each.
     #[tactic(auto, using(crate::proofs::PostLemmas::over_rules))]
     fn post_all(&mut self, posts: &mut Vec<Post>, lists: &mut Vec<Given>) -> Result<(), Memory>
         requires { AreCounted (events_of posts.old.items) lists.old.items }
@@ -397,8 +397,8 @@ fn one_more(readers: u32) -> Result<u32, Memory>
     readers.checked_add(1).ok_or(Memory)
 }
 
-/// The numbers of those of these that the connection at a seat wants, as many as there is room for. Each of them has one
-/// reader more.
+/// The numbers of those of these that the connection at a seat wants, as many as there is room for. Each of them has
+/// one reader more.
 fn numbers_within(
     alloc: Global,
     seat: usize,

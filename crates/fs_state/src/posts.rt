@@ -1,5 +1,5 @@
 //! What an entry posts of its events, once it is known who takes them.
-ghost use Rattle.std.specs.Prelude.{◌≡◌, ◌-◌, ◌^◌, min, true, length, map};
+ghost use Rattle.std.specs.Prelude.{◌≡◌, ◌-◌, ◌^◌, min, true, length};
 ghost use Rattle.fs_state.specs.Posted as spec;
 ghost use Rattle.fs_state.specs.Waiting.{waiting_given, no_posts, AreCounted, AreNumbered};
 
@@ -53,6 +53,13 @@ impl Posts {
         ensures { result ≡ length self.now.events }
     {
         self.events.len()
+    }
+
+    /// Whether nothing is posted.
+    pub(crate) fn is_empty(&self) -> bool
+        ensures { result ≡ true → self.now ≡ no_posts }
+    {
+        self.events.is_empty() && self.lists.is_empty()
     }
 
     /// How many frames are given, as far as 64 bits go.

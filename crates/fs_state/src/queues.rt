@@ -1,7 +1,6 @@
 //! The queues: who waits in them, who is taken next, and what is told of them.
 ghost use Rattle.std.specs.Prelude.{◌≡◌, IfOk};
 ghost use Rattle.std.specs.Option.{option_copied};
-ghost use Rattle.fs_chan.specs.Work.{first_of};
 ghost use Rattle.fs_seats.specs.Seats.{first_seat};
 ghost use Rattle.fs_state.specs.Drafts.{drafted, Brings};
 ghost use Rattle.fs_state.specs.Switch.{chan_at, with_event};

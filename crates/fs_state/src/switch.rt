@@ -2,6 +2,7 @@
 ghost use Rattle.std.specs.Arc.{arc_value};
 ghost use Rattle.std.specs.Prelude.{◌≡◌, ◌≤◌, ◌+◌, false, length, IfOk, OnOk, OnErr, unwrap_or};
 ghost use Rattle.std.specs.Option.{option_copied};
+ghost use Rattle.fs_text.specs.CoreId as core_id;
 ghost use Rattle.fs_seats.specs.Seats.{no_seats, IsEmptyFrom};
 ghost use Rattle.fs_event.specs.Rings.{no_events};
 ghost use Rattle.fs_state.specs.Outboxes.{nothing_waits};
@@ -36,11 +37,13 @@ const JOBS: usize = 1_024;
 /// What the largest entry costs.
 const LARGEST_COST: u64 = 65_600;
 
-/// The state of a switch between two entries. A contract sees it as the record of what is there, and beside that the ring
-/// of the events that wait for connections.
+/// The state of a switch between two entries. A contract sees it as the record of what is there, and beside that the
+/// ring of the events that wait for connections.
 pub struct Core {
     pub(crate) alloc: Global,
     pub(crate) config: Arc<Config>,
+    // The identifier of the switch, which each event tells.
+    pub(crate) uuid: Txt,
     pub(crate) globals: Boxed<Vars>,
     pub(crate) channels: Seats<Boxed<Chan>>,
     pub(crate) bridges: Bridges,
@@ -62,6 +65,7 @@ impl Drop for Core {
         let Core {
             alloc: _alloc,
             config: _config,
+            uuid: _uuid,
             globals: _globals,
             channels: _channels,
             bridges: _bridges,
@@ -82,7 +86,8 @@ impl Drop for Core {
 
 impl Model for Core {
     ghost use Rattle.std.specs.Arc.{arc_value};
-    ghost use Rattle.std.specs.Prelude.{◌+◌, ◌<◌, ◌^◌, [], length};
+    ghost use Rattle.std.specs.Prelude.{◌≡◌, ◌+◌, ◌<◌, ◌^◌, [], length};
+    ghost use Rattle.fs_text.specs.CoreId as core_id;
     ghost use Rattle.fs_event.specs.Rings.{AreBelow};
     ghost use Rattle.fs_state.specs.Switch.{Kept};
 
@@ -115,7 +120,9 @@ impl Model for Core {
       ring = c.outboxes.ring;
     } };
 
-    ghost invariant = { λ c. (length c.channels < 2 ^ 16) × AreBelow (c.counts.all + 1) c.outboxes.ring.pairs };
+    ghost invariant = { λ c. (length c.channels < 2 ^ 16) ×
+        (c.uuid ≡ core_id.uuid (arc_value c.config).settings.core_uuid 0)
+        × AreBelow (c.counts.all + 1) c.outboxes.ring.pairs };
 }
 
 impl Core {
@@ -129,12 +136,14 @@ impl Core {
         let slots = usize::from(settings.max_sessions) + 1;
         let conns = usize::from(settings.max_connections);
         let counts = Counts::new(alloc)?;
+        let uuid = settings.core_uuid.uuid(alloc, 0)?;
         let globals = Boxed::of(alloc, config.globals().copy()?)?;
         let (channels, origs, jobs) = call_tables(alloc, slots)?;
         let (conns, outboxes) = conn_tables(alloc, conns)?;
         Ok(Core {
             alloc,
             config,
+            uuid,
             globals,
             channels,
             bridges: Bridges::new(alloc),
@@ -208,6 +217,13 @@ impl Core {
         ensures { result.now ≡ self.now.switch.settings }
     {
         self.config.settings()
+    }
+
+    /// The identifier of the switch, as events tell it.
+    pub(crate) fn uuid(&self) -> &[u8]
+        ensures { result.now ≡ core_id.uuid self.now.switch.settings.core_uuid 0 }
+    {
+        self.uuid.as_bytes()
     }
 
     /// The moment of the last entry, in microseconds.

@@ -1,7 +1,8 @@
 //! All that an event tells: what was told in short, and what the entry leaves.
 ghost use Rattle.std.specs.Prelude.{◌≡◌, take, OnOk};
 ghost use Rattle.std.specs.Option.{option_copied};
-ghost use Rattle.fs_text.specs.Headers.{taking, with_values, variable_header};
+ghost use Rattle.fs_text.specs.CoreId as core_id;
+ghost use Rattle.fs_text.specs.Headers.{taking, with_values};
 ghost use Rattle.fs_state.specs.Drafts.{drafted};
 ghost use Rattle.fs_state.specs.Posting as spec;
 
@@ -18,9 +19,6 @@ use itoa::Buffer;
 
 // The most bytes of an application's argument that an event tells.
 const ARGUMENT_TOLD: usize = 1_024;
-
-// The bytes of an identifier.
-const UUID_LEN: usize = 36;
 
 impl<'a> Draft<'a> {
     /// Gives a sink all headers of an event of the entry in hand, where it has this number.
@@ -44,16 +42,22 @@ impl<'a> Draft<'a> {
         ensures { OnOk result (sink.new
             ≡ taking S.taken (spec.switch_headers (drafted self.now) number) sink.old) }
     {
-        let mut uuid = [0; UUID_LEN];
-        let core = self.settings().core_uuid.uuid_in(0, &mut uuid);
         let mut sequence = Buffer::new();
         let mut moment = Buffer::new();
-        sink.put(b"Core-UUID", core.as_bytes())?;
+        sink.put(b"Core-UUID", self.switch_uuid())?;
         sink.put(b"Event-Sequence", sequence.format(number).as_bytes())?;
         sink.put(
             b"Event-Date-Timestamp",
             moment.format(self.moment()).as_bytes(),
         )
+    }
+
+    /// The identifier of the switch.
+    fn switch_uuid(&self) -> &[u8]
+        ensures { result.now ≡ core_id.uuid (drafted self.now).settings.core_uuid 0 }
+    {
+        let core = self.core;
+        core.uuid()
     }
 
     /// Tells of the channel that an event tells of, if it tells of one.

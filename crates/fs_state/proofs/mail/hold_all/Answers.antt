@@ -1,5 +1,4 @@
-use Rattle.std.proofs.Common.{◌≡◌, ◌≤◌, ◌+◌, ◌<◌, ◌∷◌, List, [], length, sym, ap, subst, ◌∙◌, arith, zero, refl}
-use Rattle.std.proofs.lemmas.List.{length-map}
+use Rattle.std.proofs.Common.{◌≡◌, ◌∷◌, List, [], length, ap, subst, arith, refl}
 use Rattle.fs_state.specs.declared.post.Post.{Post}
 use Rattle.fs_state.specs.Posted.{event_of, events_of}
 use Rattle.fs_state.specs.Waiting.{with_events_held, AreBehind, AreOrdered}

@@ -1,4 +1,4 @@
-use Rattle.std.proofs.Common.{◌≡◌, ◌+◌, ◌-◌, ◌^◌, ◌++◌, ◌≤◌, drop}
+use Rattle.std.proofs.Common.{◌≡◌, ◌+◌, ◌-◌, ◌++◌, drop}
 use Rattle.fs_state.specs.Drafts.{drafted}
 use Rattle.fs_state.specs.Posting.{posts_told}
 use Rattle.fs_state.proofs.PostLemmas.{posts_left}

@@ -1,5 +1,4 @@
-use Rattle.std.proofs.Common.{◌≡◌, ◌≤◌, [], drop, sym, ap, ◌∙◌, arith}
-use Rattle.fs_event.specs.Rings.{AreBelow}
+use Rattle.std.proofs.Common.{[], drop, ap, ◌∙◌, arith}
 use Rattle.fs_state.specs.Outboxes.{outbox_at, without_frames}
 use Rattle.fs_state.proofs.OutboxLemmas.{set_again}
 use Rattle.fs_state.proofs.outboxes.Outboxes.clear.Goals as goal

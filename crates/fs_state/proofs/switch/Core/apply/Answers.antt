@@ -1,8 +1,6 @@
-use Rattle.std.proofs.Common.{◌≡◌, ℕ, ◌+◌, ◌-◌, ◌^◌, ◌≤◌, ◌<◌, min, List, length, sym, ap, subst, ◌∙◌, arith}
-use Rattle.fs_text.specs.Texts.{Text}
-use Rattle.fs_event.specs.Rings.{Pair, AreBelow}
+use Rattle.std.proofs.Common.{◌≡◌, ◌+◌, ◌-◌, ◌^◌, ◌≤◌, min, length, sym, ap, subst, ◌∙◌, arith}
+use Rattle.fs_event.specs.Rings.{AreBelow}
 use Rattle.fs_state.specs.declared.delta.Delta.{Delta}
-use Rattle.fs_state.specs.declared.event.Event.{Event}
 use Rattle.fs_state.specs.Counts.{Tallies}
 use Rattle.fs_state.specs.Drafts.{rest_of}
 use Rattle.fs_state.specs.Switch.{Kept, Switch}
@@ -27,7 +25,8 @@ invariant_of-self c =
     below_less (min (c.args.self.now.switch.counts.all + length delta.news) (2 ^ 64 - 1) + 1) (counted.all + 1) delta.posted.events
     (omega (arith, least, ap (λ (t : Tallies). t.all) same)) c.requires.fits.numbers.within in
     let pairs : AreBelow (counted.all + 1) c.self.inside.outboxes.ring.pairs =
-    below_less (counts.all + 1) (counted.all + 1) c.self.inside.outboxes.ring.pairs (omega (arith, c.count_all.ensures.more)) c.self.invariant.1 in (
+    below_less (counts.all + 1) (counted.all + 1) c.self.inside.outboxes.ring.pairs (omega (arith, c.count_all.ensures.more)) c.self.invariant.2 in (
       c.self.invariant.0,
+      c.self.invariant.1,
       c.deliver.ensures.below (counted.all + 1) pairs (subst (λ (d : Delta). AreBelow (counted.all + 1) d.posted.events) (sym left) events),
     )

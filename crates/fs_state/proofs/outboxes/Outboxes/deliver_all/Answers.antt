@@ -1,7 +1,6 @@
-use Rattle.std.proofs.Common.{◌≡◌, ◌+◌, ◌-◌, ◌^◌, min, ◌++◌, List, [], length, sym, ap, subst, ◌∙◌, arith}
+use Rattle.std.proofs.Common.{◌≡◌, ◌+◌, ◌-◌, ◌^◌, min, ◌++◌, List, sym, ap, subst, ◌∙◌, arith}
 use Rattle.fs_text.specs.Texts.{Text}
 use Rattle.fs_event.specs.Rings.{Pair, AreBelow}
-use Rattle.fs_state.specs.Frames.{Frames}
 use Rattle.fs_state.specs.Mail.{mail_of}
 use Rattle.fs_state.specs.Outboxes.{HaveRoom, AreWithin, all_of, frames_given, delivered}
 use Rattle.fs_state.specs.Posted.{events_of}
@@ -9,7 +8,7 @@ use Rattle.fs_state.specs.Waiting.{Mail, Posted, Waits, AreBehind, AreDelivered,
 use Rattle.fs_state.proofs.DeliveryLemmas.{Parts, holding, room_start, room_gifts, read_then, come_then, below_then, within_then}
 use Rattle.fs_state.proofs.MailLemmas.{room_delivered}
 use Rattle.fs_state.proofs.OutboxLemmas.{room_less}
-use Rattle.fs_state.proofs.outboxes.Outboxes.deliver.Goals as goal
+use Rattle.fs_state.proofs.outboxes.Outboxes.deliver_all.Goals as goal
 
 pub deliver_gifts-requires : goal.deliver_gifts-requires
 deliver_gifts-requires c =

@@ -153,7 +153,8 @@ fn run_behind_within(
     text: &[u8],
 ) -> Result<(), Memory>
     ensures { Brings result draft.old draft.new
-        (spec.command_done_in phase.Ready conn (commands.Bgapi text.now (option_copied given.entry)) (drafted draft.old)) }
+        (spec.command_done_in phase.Ready conn (commands.Bgapi text.now (option_copied given.entry))
+        (drafted draft.old)) }
 {
     if may_command_all(draft, conn)? {
         run_behind(draft, conn, given, text)

@@ -1,4 +1,5 @@
-//! Controllers: how one is dialed for a channel, how it takes hold of that, and what the end of either makes of the other.
+//! Controllers: how one is dialed for a channel, how it takes hold of that, and what the end of either makes of the
+//! other.
 
 ghost use Rattle.std.specs.Prelude.{◌≡◌, IfOk};
 ghost use Rattle.std.specs.Option.{option_copied};
@@ -23,8 +24,8 @@ use std::alloc::Global;
 
 // ---- how a controller is dialed
 
-/// Lets a channel wait for the controller that a text names. Where it names none, or a connection holds the channel, that
-/// goes on.
+/// Lets a channel wait for the controller that a text names. Where it names none, or a connection holds the channel,
+/// that goes on.
 pub(crate) fn seek_controller(draft: &mut Draft<'_>, slot: u16, text: &Txt) -> Result<(), Memory>
     ensures { Brings result draft.old draft.new (spec.after_socket text.now slot (drafted draft.old)) }
 {
@@ -71,7 +72,8 @@ pub(crate) fn names_all(alloc: Global, text: &Txt) -> Result<bool, Memory>
 // ---- how it takes hold
 
 /// A controller was dialed for the channel in a slot, which waited for one. Where there is a link to it, and a seat for
-/// its connection, it takes hold of the channel, by the connection of the number that is told; else the channel goes on.
+/// its connection, it takes hold of the channel, by the connection of the number that is told; else the channel goes
+/// on.
 pub(crate) fn end_dial(
     draft: &mut Draft<'_>,
     slot: u16,

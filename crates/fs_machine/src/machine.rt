@@ -1,9 +1,9 @@
 //! A switch with the journal of its entries: an entry is judged and prepared, and then done.
 
-ghost use Rattle.std.specs.Prelude.{◌≡◌, [], ◌∷◌, ◌++◌, false, None, Some, IfOk, IfErr, OnOk};
+ghost use Rattle.std.specs.Prelude.{◌≡◌, [], ◌∷◌, ◌++◌, None, Some, IfOk, IfErr, OnOk};
 ghost use Rattle.fs_doc.specs.Limits.{IsWithin};
 ghost use Rattle.fs_state.specs.declared.delta.OutboxChange.TheVariants.{Unchanged};
-ghost use Rattle.fs_state.specs.Drafts.{after, drafted, Fits};
+ghost use Rattle.fs_state.specs.Drafts.{drafted};
 ghost use Rattle.fs_state.specs.Switch.{empty, HasRoomWithin};
 ghost use Rattle.fs_state.specs.Waiting.{AreHeld};
 ghost use Rattle.fs_machine.specs.Entries.{cost_with};
@@ -30,8 +30,8 @@ use std::sync::Arc;
 
 /// A switch with the journal of its entries.
 ///
-/// A contract sees what it was configured by, its journal, for how many entries there is room, and the ring of the events
-/// that wait for connections; its state is what the entries make of the empty switch.
+/// A contract sees what it was configured by, its journal, for how many entries there is room, and the ring of the
+/// events that wait for connections; its state is what the entries make of the empty switch.
 pub struct Machine {
     // What it started from.
     pub(crate) config: Arc<Config>,

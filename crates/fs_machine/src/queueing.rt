@@ -1,6 +1,5 @@
 //! How a channel comes to wait in a queue, and how one takes a caller out of it.
 
-ghost use Rattle.std.specs.Prelude.{◌≡◌};
 ghost use Rattle.fs_state.specs.Drafts.{drafted, Brings};
 ghost use Rattle.fs_machine.specs.Queueing as spec;
 

@@ -1,7 +1,7 @@
 //! Channels are routed by plans that were made beside the switch.
 
-ghost use Rattle.std.specs.Prelude.{◌≡◌, ◌≢◌, ◌↔◌, [], ◌∷◌, ◌++◌, None, Some, true, IfOk, IfErr, OnOk, MatchOption, IsTrue, false};
-ghost use Rattle.std.specs.Arc.{arc_value};
+ghost use Rattle.std.specs.Prelude.{◌≡◌, ◌↔◌, [], ◌∷◌, ◌++◌, None, Some, false};
+ghost use Rattle.std.specs.Prelude.{IfOk, IfErr, OnOk, MatchOption, IsTrue};
 ghost use Rattle.fs_state.specs.Switch.{HasRoomWithin};
 ghost use Rattle.fs_machine.specs.Entries.{cost_with};
 ghost use Rattle.fs_machine.specs.Routes as spec;

@@ -26,7 +26,8 @@ pub(crate) fn shut_down(draft: &mut Draft<'_>) -> Result<(), Memory>
     draft.end(&reply, &notice)
 }
 
-// Hangs up all channels, so that controllers part whose channels leave them, and tells that the switch comes to its end.
+// Hangs up all channels, so that controllers part whose channels leave them, and tells that the switch comes to its
+// end.
 fn end_calls(draft: &mut Draft<'_>) -> Result<(), Memory>
     ensures { Brings result draft.old draft.new
         (with_event spec.shutdown_event (after_leavings (after_hangup_of_all SystemShutdown (drafted draft.old)))) }

@@ -90,7 +90,8 @@ impl Touches {
     fn note_slot(&mut self, core: &Core, delta: &Delta, slot: u16, same: bool)
         requires slot { slot < length self.old }
         requires same { IsTrue same ↔ ((after core.now.switch delta.now).globals ≡ core.now.switch.globals) }
-        ensures here { spec.IsCountedOn (spec.basis_at slot core.now.switch) (spec.basis_at slot (after core.now.switch delta.now))
+        ensures here { spec.IsCountedOn (spec.basis_at slot core.now.switch)
+            (spec.basis_at slot (after core.now.switch delta.now))
             (slice_index self.old slot) (slice_index self.new slot) }
         ensures others { (other : ℕ) → other ≢ slot → slice_index self.new other ≡ slice_index self.old other }
         ensures all { length self.new ≡ length self.old }
@@ -115,7 +116,8 @@ fn keeps_globals(core: &Core, delta: &Delta) -> bool
 // Whether changes change what the route of the channel in a slot rests on; `same` says whether the globals stay.
 fn changes(core: &Core, delta: &Delta, slot: u16, same: bool) -> bool
     requires { IsTrue same ↔ ((after core.now.switch delta.now).globals ≡ core.now.switch.globals) }
-    ensures { IsTrue result ↔ (spec.basis_at slot core.now.switch ≢ spec.basis_at slot (after core.now.switch delta.now)) }
+    ensures { IsTrue result
+        ↔ (spec.basis_at slot core.now.switch ≢ spec.basis_at slot (after core.now.switch delta.now)) }
 {
     let after = to_route(core.chan_after(delta, slot));
     let Some(before) = to_route(core.chan(slot)) else {

@@ -1,7 +1,6 @@
 //! The machine as a state that takes entries in turn.
 
-ghost use Rattle.std.specs.Prelude.{◌≡◌, ◌++◌, ◌∷◌, [], MatchResult};
-ghost use Rattle.fs_machine.specs.Turned.{Tells, Refuses};
+ghost use Rattle.std.specs.Prelude.{◌≡◌};
 ghost use Rattle.fs_machine.specs.Standing.{standing_by};
 ghost use Rattle.fs_machine.specs.Runs.{state_of};
 

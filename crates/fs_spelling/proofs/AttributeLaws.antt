@@ -3,7 +3,7 @@ use Rattle.std.proofs.Common.{◌≡◌, ◌≢◌, ℕ, ◌-◌, Bool, true, fa
 use Rattle.std.proofs.Common.{refl, sym, ap, ◌∙◌, subst, append_assoc, arith}
 use Rattle.std.specs.List.{list_any, take_while}
 use Rattle.std.proofs.lemmas.List.Sums.{take_while-cons}
-use Rattle.std.proofs.lemmas.List.{length-append}
+use Rattle.std.proofs.lemmas.List.{length-append, append_cancel_left}
 use Rattle.std.proofs.lemmas.Bool.Decides.{nat_tests}
 use Rattle.std.proofs.lemmas.Bool.{eqb-true}
 use Rattle.fs_text.specs.Words.{is_byte, halves_of}
@@ -16,6 +16,7 @@ use Rattle.fs_xml.specs.Attributes.{equals_at, named_at, slash_at, part_on, part
 use Rattle.fs_xml.proofs.ByteLemmas.{run_past}
 use Rattle.fs_spelling.specs.Tags.{Pair, AreBlank, IsName, IsAttribute}
 use Rattle.fs_spelling.specs.Readings.{pair_of, ReadsAttribute, TakesAttribute}
+use Rattle.fs_spelling.specs.Marks.{IsWritten}
 use Rattle.fs_spelling.proofs.Binds.{bind_ok}
 use Rattle.fs_spelling.proofs.Runs.{Stops, past_run, the_run, run_passes, name_byte, first_byte, no_mark, quote_stops, gap_stops}
 use Rattle.fs_spelling.proofs.Runs.{name_passes, name_stops}
@@ -23,15 +24,15 @@ use Rattle.fs_spelling.proofs.Runs.{name_passes, name_stops}
 -- ---- what is spelt is read
 
 -- the parts of an attribute, and what stands behind it
-abbrev Attribute : (name gap behind : List ℕ) (quote : ℕ) (value rest : List ℕ) → List ℕ
+abbrev pub Attribute : (name gap behind : List ℕ) (quote : ℕ) (value rest : List ℕ) → List ℕ
 Attribute name gap behind quote value rest = name ++ (gap ++ (61 ∷ (behind ++ (quote ∷ (value ++ (quote ∷ rest))))))
 
-seam : (before name gap behind : List ℕ) (quote : ℕ) (value rest : List ℕ)
+pub seam : (before name gap behind : List ℕ) (quote : ℕ) (value rest : List ℕ)
     → (before ++ (name ++ (gap ++ (61 ∷ (behind ++ (quote ∷ (value ++ (quote ∷ [])))))))) ++ rest ≡ before
     ++ Attribute name gap behind quote value rest
 seam before name gap behind quote value rest = simp append_assoc
 
-equals_stops : (is_name_byte 61 ≡ false) × (is_blank 61 ≡ false)
+pub equals_stops : (is_name_byte 61 ≡ false) × (is_blank 61 ≡ false)
 unfolding is_name_byte is_blank is_quote is_mark
 equals_stops = (refl, refl)
 
@@ -45,13 +46,13 @@ part_named end b bytes begins =
     let no = no_mark b (name_byte b (first_byte b begins)).no_mark in
     rw (no.no_greater, no.no_slash, begins) refl
 
-name_read : (end : ℕ) (name bytes : List ℕ) → IsName name → part_on end false (name ++ bytes) ≡ named_at end (name ++ bytes)
+pub name_read : (end : ℕ) (name bytes : List ℕ) → IsName name → part_on end false (name ++ bytes) ≡ named_at end (name ++ bytes)
 name_read end name bytes is =
     let P : List ℕ → Type 0 = λ n. part_on end false (n ++ bytes) ≡ named_at end (n ++ bytes) in
     subst P (sym is.whole) (part_named end is.first (is.others ++ bytes) is.begins)
 
 -- blanks in front of a part are passed
-part_behind : (end : ℕ) (before bytes : List ℕ) → before ≢ [] → AreBlank before → Stops is_blank bytes →
+pub part_behind : (end : ℕ) (before bytes : List ℕ) → before ≢ [] → AreBlank before → Stops is_blank bytes →
     part_at end (before ++ bytes) ≡ part_on end false bytes
 unfolding part_at
 part_behind end before bytes apart blank stops =
@@ -74,7 +75,7 @@ equals_read end at name behind quote value rest blank quotes parts =
     ap (quoted_at end at name) (past_run is_blank behind (quote ∷ (value ++ (quote ∷ rest))) blank (quote_stops quote quotes).0)
     ∙ quoted_read end at name quote value rest quotes parts
 
-named_read : (end : ℕ) (name gap more : List ℕ) → IsName name → AreBlank gap →
+pub named_read : (end : ℕ) (name gap more : List ℕ) → IsName name → AreBlank gap →
     named_at end (name ++ (gap ++ (61 ∷ more))) ≡ equals_at end (offset end (name ++ (gap ++ (61 ∷ more)))) name (61 ∷ more)
 unfolding named_at
 named_read end name gap more is blank =
@@ -86,23 +87,49 @@ named_read end name gap more is blank =
     ∙ ap (λ rest. equals_at end at name (past is_blank rest)) (past_run is_name_byte name (gap ++ (61 ∷ more)) passes stops)
     ∙ ap (equals_at end at name) (past_run is_blank gap (61 ∷ more) blank equals_stops.1)
 
-pub spelt_attribute : (end : ℕ) (bytes rest : List ℕ) (pair : Pair) → IsAttribute bytes pair → ReadsAttribute end (bytes ++ rest) rest pair
-spelt_attribute end bytes rest pair is =
+-- an attribute as it is read in front of a rest
+abbrev pub written_as_it_is : (end : ℕ) (bytes rest : List ℕ) (pair : Pair) → IsAttribute bytes pair → Written
+written_as_it_is end bytes rest pair is = record {
+  at = offset end (Attribute pair.name is.gap is.gap_behind is.quote pair.value rest);
+  name = pair.name;
+  value = pair.value;
+  end = offset end rest - 1;
+}
+
+pub attribute_at : (end : ℕ) (bytes rest : List ℕ) (pair : Pair) (is : IsAttribute bytes pair) →
+    part_at end (bytes ++ rest) ≡ Ok (Has (written_as_it_is end bytes rest pair is), rest)
+attribute_at end bytes rest pair is =
     let more = is.gap_behind ++ (is.quote ∷ (pair.value ++ (is.quote ∷ rest))) in
     let behind = pair.name ++ (is.gap ++ (61 ∷ more)) in
     let at = offset end behind in
     let whole : bytes ++ rest ≡ is.before ++ behind =
     ap (λ b. b ++ rest) is.whole ∙ seam is.before pair.name is.gap is.gap_behind is.quote pair.value rest in
-    record {
-      written = record { at = at; name = pair.name; value = pair.value; end = offset end rest - 1 };
-      read = ap (part_at end) whole
-          ∙ part_behind end is.before behind is.apart is.before_blank (name_stops pair.name (is.gap ++ (61 ∷ more)) is.is_name)
-          ∙ name_read end pair.name (is.gap ++ (61 ∷ more)) is.is_name
-          ∙ named_read end pair.name is.gap more is.is_name is.gap_blank
-          ∙ equals_read end at pair.name is.gap_behind is.quote pair.value rest is.behind_blank is.quotes
-          (cut_behind is.quote pair.value rest is.unbroken);
-      same = refl;
-    }
+    ap (part_at end) whole
+    ∙ part_behind end is.before behind is.apart is.before_blank (name_stops pair.name (is.gap ++ (61 ∷ more)) is.is_name)
+    ∙ name_read end pair.name (is.gap ++ (61 ∷ more)) is.is_name
+    ∙ named_read end pair.name is.gap more is.is_name is.gap_blank
+    ∙ equals_read end at pair.name is.gap_behind is.quote pair.value rest is.behind_blank is.quotes
+    (cut_behind is.quote pair.value rest is.unbroken)
+
+pub spelt_attribute : (end : ℕ) (bytes rest : List ℕ) (pair : Pair) → IsAttribute bytes pair → ReadsAttribute end (bytes ++ rest) rest pair
+spelt_attribute end bytes rest pair is = record {
+  written = written_as_it_is end bytes rest pair is;
+  read = attribute_at end bytes rest pair is;
+  same = refl;
+}
+
+-- with the offsets that it has there
+pub written_read : (end : ℕ) (bytes rest : List ℕ) (a : Written) → IsWritten end bytes rest a →
+    part_at end (bytes ++ rest) ≡ Ok (Has a, rest)
+written_read end bytes rest a w =
+    let is = w.is in
+    let named : List ℕ = a.name ++ (is.gap ++ (61 ∷ (is.gap_behind ++ (is.quote ∷ (a.value ++ (is.quote ∷ [])))))) in
+    let same : w.named ≡ named = append_cancel_left is.before w.named named (sym w.whole ∙ is.whole) in
+    let place : a.at ≡ offset end (Attribute a.name is.gap is.gap_behind is.quote a.value rest) =
+    w.place ∙ ap (λ t. offset end (t ++ rest)) same ∙ ap (offset end) (seam [] a.name is.gap is.gap_behind is.quote a.value rest) in
+    attribute_at end bytes rest (pair_of a) is
+    ∙ ap (λ n. Ok (Has (record { at = n; name = a.name; value = a.value; end = offset end rest - 1 }), rest)) (sym place)
+    ∙ ap (λ n. Ok (Has (record { at = a.at; name = a.name; value = a.value; end = n }), rest)) (sym w.place_behind)
 
 -- ---- what is read is spelt
 
@@ -130,6 +157,8 @@ pub record Quoted (end at : ℕ) (name text rest : List ℕ) (a : Written) : Typ
   pub quotes : is_quote quote ≡ true
   pub unbroken : list_any (is_byte quote) a.value ≡ false
   pub named : a.name ≡ name
+  pub place : a.at ≡ at
+  pub place_behind : a.end ≡ offset end rest - 1
 
 valued_taken : (end at : ℕ) (name : List ℕ) (quote : ℕ) (bytes rest : List ℕ) (a : Written) (found : Option (List ℕ × List ℕ)) →
     halves_of quote bytes ≡ found → is_quote quote ≡ true
@@ -149,6 +178,8 @@ valued_taken end at name quote bytes rest a (Some x) is quotes e =
       quotes = quotes;
       unbroken = ap (list_any (is_byte quote)) (sym value) ∙ parts.0;
       named = sym (ap (λ (y : Written). y.name) it);
+      place = sym (ap (λ (y : Written). y.at) it);
+      place_behind = sym (ap (λ (y : Written). y.end) it) ∙ ap (λ r. offset end r - 1) after;
     }
 
 quoted_taken : (end at : ℕ) (name text rest : List ℕ) (a : Written) → quoted_at end at name text ≡ was_read (Has a, rest) →
@@ -240,10 +271,15 @@ name_is text first others whole begins =
       goes_on = run_passes is_name_byte others;
     }
 
-pub read_attribute : (end : ℕ) (text rest : List ℕ) (a : Written) → part_at end text ≡ Ok (Has a, rest) →
-    TakesAttribute text rest (pair_of a)
+-- an attribute with its offsets in front, and the rest
+pub record TakesWritten (end : ℕ) (text rest : List ℕ) (a : Written) : Type 0 where
+  pub bytes : List ℕ
+  pub whole : text ≡ bytes ++ rest
+  pub is : IsWritten end bytes rest a
+
+pub read_written : (end : ℕ) (text rest : List ℕ) (a : Written) → part_at end text ≡ Ok (Has a, rest) → TakesWritten end text rest a
 unfolding part_at named_at
-read_attribute end text rest a e =
+read_written end text rest a e =
     let before = take_while is_blank text in
     let body = past is_blank text in
     let part = part_taken end (length body == length text) body rest a e in
@@ -256,24 +292,38 @@ read_attribute end text rest a e =
     let tail = gap ++ (61 ∷ (equals.gap ++ (quoted.quote ∷ (a.value ++ (quoted.quote ∷ rest))))) in
     let behind_is : behind ≡ tail =
     sym (run_past is_blank behind) ∙ ap (λ r. gap ++ r) (equals.whole ∙ ap (λ r. 61 ∷ (equals.gap ++ r)) quoted.whole) in
+    let body_is : body ≡ Attribute a.name gap equals.gap quoted.quote a.value rest =
+    sym (run_past is_name_byte body) ∙ ap (λ r. name ++ r) behind_is ∙ ap (λ n. n ++ tail) (sym quoted.named) in
     let whole : text ≡ before ++ Attribute a.name gap equals.gap quoted.quote a.value rest =
-    sym (run_past is_blank text) ∙ ap (λ r. before ++ r)
-    (sym (run_past is_name_byte body) ∙ ap (λ r. name ++ r) behind_is ∙ ap (λ n. n ++ tail) (sym quoted.named)) in
+    sym (run_past is_blank text) ∙ ap (λ r. before ++ r) body_is in
+    let named : List ℕ = a.name ++ (gap ++ (61 ∷ (equals.gap ++ (quoted.quote ∷ (a.value ++ (quoted.quote ∷ [])))))) in
     record {
-      bytes = before ++ (a.name ++ (gap ++ (61 ∷ (equals.gap ++ (quoted.quote ∷ (a.value ++ (quoted.quote ∷ [])))))));
+      bytes = before ++ named;
       whole = whole ∙ sym (seam before a.name gap equals.gap quoted.quote a.value rest);
       is = record {
-        before = before;
-        gap = gap;
-        gap_behind = equals.gap;
-        quote = quoted.quote;
+        is = record {
+          before = before;
+          gap = gap;
+          gap_behind = equals.gap;
+          quote = quoted.quote;
+          whole = refl;
+          apart = passed text part.apart;
+          before_blank = run_passes is_blank text;
+          gap_blank = run_passes is_blank behind;
+          behind_blank = equals.blank;
+          is_name = subst IsName (sym quoted.named) is_name;
+          quotes = quoted.quotes;
+          unbroken = quoted.unbroken;
+        };
+        named = named;
         whole = refl;
-        apart = passed text part.apart;
-        before_blank = run_passes is_blank text;
-        gap_blank = run_passes is_blank behind;
-        behind_blank = equals.blank;
-        is_name = subst IsName (sym quoted.named) is_name;
-        quotes = quoted.quotes;
-        unbroken = quoted.unbroken;
+        place = quoted.place ∙ ap (offset end) (body_is ∙ sym (seam [] a.name gap equals.gap quoted.quote a.value rest));
+        place_behind = quoted.place_behind;
       };
     }
+
+pub read_attribute : (end : ℕ) (text rest : List ℕ) (a : Written) → part_at end text ≡ Ok (Has a, rest) →
+    TakesAttribute text rest (pair_of a)
+read_attribute end text rest a e =
+    let taken = read_written end text rest a e in
+    record { bytes = taken.bytes; whole = taken.whole; is = taken.is.is }

@@ -1,6 +1,7 @@
 pub mod Binds
 pub mod ValueLaws
 pub mod Runs
+pub mod LooseLaws
 pub mod AttributeLaws
 pub mod BodyLaws
 pub mod MarkLaws

@@ -14,11 +14,11 @@ use Rattle.fs_xml.specs.Bytes.{is_blank, is_quote, is_mark, is_name_byte, begins
 use Rattle.fs_xml.specs.Attributes.{Written, TagPart, Has, Ends, Broken, TagParts, tag_end, broken_at, valued_on, valued_at, quoted_at}
 use Rattle.fs_xml.specs.Attributes.{equals_at, named_at, slash_at, part_on, part_at}
 use Rattle.fs_xml.proofs.ByteLemmas.{run_past}
-use Rattle.fs_spelling.specs.Tags.{Pair, AreBlank, IsName, IsAttribute}
+use Rattle.fs_spelling.specs.Tags.{Pair, AreBlank, IsName, IsAttribute, Stops}
 use Rattle.fs_spelling.specs.Readings.{pair_of, ReadsAttribute, TakesAttribute}
 use Rattle.fs_spelling.specs.Marks.{IsWritten}
 use Rattle.fs_spelling.proofs.Binds.{bind_ok}
-use Rattle.fs_spelling.proofs.Runs.{Stops, past_run, the_run, run_passes, name_byte, first_byte, no_mark, quote_stops, gap_stops}
+use Rattle.fs_spelling.proofs.Runs.{past_run, the_run, run_passes, name_byte, first_byte, no_mark, quote_stops, gap_stops}
 use Rattle.fs_spelling.proofs.Runs.{name_passes, name_stops}
 
 -- ---- what is spelt is read
@@ -253,7 +253,7 @@ part_taken end glued (b ∷ bytes) rest a e = by (b == 62) (b == 47) (begins_nam
     by false false false g begins is h = absurd (cc)
 
 -- blanks that were passed are some
-passed : (text : List ℕ) → (length (past is_blank text) == length text) ≡ false → take_while is_blank text ≢ []
+pub passed : (text : List ℕ) → (length (past is_blank text) == length text) ≡ false → take_while is_blank text ≢ []
 passed text longer none =
     let whole = run_past is_blank text in
     let same : past is_blank text ≡ text = ap (λ r. r ++ past is_blank text) (sym none) ∙ whole in

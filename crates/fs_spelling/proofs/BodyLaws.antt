@@ -15,28 +15,28 @@ use Rattle.fs_xml.specs.Attributes.{Written, TagPart, Has, Ends, Broken, TagPart
 use Rattle.fs_xml.specs.Attributes.{equals_at, named_at, slash_at, part_on, part_at}
 use Rattle.fs_xml.specs.Tags.{BodyText, Step, step_of, Bodies, go_on, body_step, body_within, body_at}
 use Rattle.fs_xml.proofs.ByteLemmas.{run_past}
-use Rattle.fs_spelling.specs.Tags.{Pair, AreBlank, IsAttribute, AreAttributes, NoMore, OneMore, ending_text, IsBody}
+use Rattle.fs_spelling.specs.Tags.{Pair, AreBlank, IsAttribute, AreAttributes, NoMore, OneMore, ending_text, IsBody, Stops}
 use Rattle.fs_spelling.specs.Readings.{pair_of, ReadsAttribute}
 use Rattle.fs_spelling.specs.Readings.{TakesBody}
 use Rattle.fs_spelling.proofs.Binds.{bind_ok}
-use Rattle.fs_spelling.proofs.Runs.{Stops, past_run, run_passes, blank_stops, gap_stops, and_true}
+use Rattle.fs_spelling.proofs.Runs.{past_run, run_passes, blank_stops, gap_stops, and_true}
 use Rattle.fs_spelling.proofs.AttributeLaws.{spelt_attribute, read_attribute, was_read, same_read}
 
 -- ---- what is spelt is read
 
-end_stops : (ending : Ending) (rest : List ℕ) →
+pub end_stops : (ending : Ending) (rest : List ℕ) →
     Stops is_blank (ending_text ending ++ rest) × Stops is_name_byte (ending_text ending ++ rest)
 unfolding is_blank is_name_byte is_quote is_mark
 end_stops Opens rest = (refl, refl)
 end_stops Closes rest = (refl, refl)
 
-end_on : (end : ℕ) (glued : Bool) (ending : Ending) (rest : List ℕ) →
+pub end_on : (end : ℕ) (glued : Bool) (ending : Ending) (rest : List ℕ) →
     part_on end glued (ending_text ending ++ rest) ≡ Ok (Ends ending, rest)
 unfolding part_on slash_at
 end_on end glued Opens rest = refl
 end_on end glued Closes rest = refl
 
-end_read : (end : ℕ) (gap : List ℕ) (ending : Ending) (rest : List ℕ) → AreBlank gap →
+pub end_read : (end : ℕ) (gap : List ℕ) (ending : Ending) (rest : List ℕ) → AreBlank gap →
     part_at end (gap ++ (ending_text ending ++ rest)) ≡ Ok (Ends ending, rest)
 unfolding part_at
 end_read end gap ending rest blank =
@@ -217,7 +217,7 @@ end_taken_on end glued (b ∷ bytes) rest ending e = by (b == 62) (b == 47) (beg
         (past is_blank (past is_name_byte (b ∷ bytes))) rest ending h)
     by false false false g is it h = absurd (cc)
 
-end_taken : (end : ℕ) (text rest : List ℕ) (ending : Ending) → part_at end text ≡ Ok (Ends ending, rest) → TakesEnd text ending rest
+pub end_taken : (end : ℕ) (text rest : List ℕ) (ending : Ending) → part_at end text ≡ Ok (Ends ending, rest) → TakesEnd text ending rest
 unfolding part_at
 end_taken end text rest ending e = record {
   gap = take_while is_blank text;

@@ -4,6 +4,7 @@ pub mod Runs
 pub mod LooseLaws
 pub mod AttributeLaws
 pub mod BodyLaws
+pub mod PartLaws
 pub mod MarkLaws
 pub mod TextLaws
 pub mod ElementLaws

@@ -4,12 +4,7 @@ use Rattle.std.specs.List.{list_all, take_while}
 use Rattle.std.proofs.lemmas.List.Sums.{take_while-cons}
 use Rattle.std.proofs.lemmas.Bool.{or_parts, eqb-true}
 use Rattle.fs_xml.specs.Bytes.{is_blank, is_quote, is_mark, is_name_byte, begins_name, past}
-use Rattle.fs_spelling.specs.Tags.{AreBlank, IsName}
-
--- the first byte does not pass, if there is one
-abbrev pub Stops : (ℕ → Bool) → List ℕ → Type 0
-Stops p [] = Unit {0}
-Stops p (b ∷ bytes) = p b ≡ false
+use Rattle.fs_spelling.specs.Tags.{AreBlank, Stops, IsName}
 
 pub and_true : (a b : Bool) → (a && b) ≡ true → (a ≡ true) × (b ≡ true)
 and_true true b e = (refl, e)

@@ -15,9 +15,9 @@ use Rattle.fs_doc.specs.declared.element.Level.{Level}
 use Rattle.fs_doc.specs.declared.element.Level.TheVariants as level
 use Rattle.fs_doc.specs.Faults.{fault}
 use Rattle.fs_doc.specs.Reading.{text_kind, blank_text, any_text, text_at}
-use Rattle.fs_spelling.specs.Tags.{AreBlank}
+use Rattle.fs_spelling.specs.Tags.{AreBlank, Stops}
 use Rattle.fs_spelling.specs.Documents.{IsFiller}
-use Rattle.fs_spelling.proofs.Runs.{Stops, past_run, run_passes}
+use Rattle.fs_spelling.proofs.Runs.{past_run, run_passes}
 
 -- markup begins with `<`
 abbrev pub BeginsMark : Text → Type 0

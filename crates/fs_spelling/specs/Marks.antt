@@ -9,7 +9,7 @@ use Rattle.fs_xml.specs.declared.attribute.Ending.TheVariants.{Opens}
 use Rattle.fs_xml.specs.Bytes.{is_blank, is_quote, is_name_byte, begins_name, offset}
 use Rattle.fs_xml.specs.Attributes.{Written}
 use Rattle.fs_xml.specs.Tags.{BodyText}
-use Rattle.fs_spelling.specs.Tags.{Pair, AreBlank, IsName, IsAttribute, AreAttributes, ending_text, IsEndTag, IsComment}
+use Rattle.fs_spelling.specs.Tags.{Pair, AreBlank, Stops, IsName, IsAttribute, AreAttributes, ending_text, IsEndTag, IsComment}
 use Rattle.fs_spelling.specs.Readings.{pair_of}
 
 -- ---- malformed attributes
@@ -43,7 +43,8 @@ pub data IsMark : (around : Option Text) (bytes : List ℕ) → Type 0 where
   AComment : (around : Option Text) (bytes : List ℕ) → IsComment bytes → IsMark around bytes
   AnEnd : (outer name bytes : List ℕ) → IsEndTag bytes name → IsMark (Some outer) bytes
   ATag : (around : Option Text) (name attributes tail : List ℕ) (pairs : List Pair) (malformed : Option (List ℕ)) (ending : Ending)
-      → IsName name → AreAttributes attributes pairs → IsTail tail malformed ending → IsMark around (name ++ (attributes ++ tail))
+      → IsName name → Stops is_name_byte (attributes ++ tail) → AreAttributes attributes pairs → IsTail tail malformed ending
+      → IsMark around (name ++ (attributes ++ tail))
 
 -- markup stands in front
 pub record HasMark (around : Option Text) (text : List ℕ) : Type 0 where
@@ -85,6 +86,7 @@ pub record IsStart (end : ℕ) (bytes rest name : List ℕ) (body : BodyText) : 
   pub malformed : Option (List ℕ)
   pub whole : bytes ≡ name ++ (attributes ++ tail)
   pub is_name : IsName name
+  pub apart : Stops is_name_byte (attributes ++ tail)
   pub are : AreWritten end attributes (tail ++ rest) body.attrs
   pub ends : IsTail tail malformed body.ending
   pub place : body.malformed ≡ option_map (λ text. offset end (text ++ rest)) malformed

@@ -1,5 +1,5 @@
 -- Which bytes are comments and tags.
-use Rattle.std.specs.Prelude.{◌≡◌, ◌≢◌, ℕ, true, false, List, [], ◌∷◌, ◌++◌, Ok, codes}
+use Rattle.std.specs.Prelude.{◌≡◌, ◌≢◌, ℕ, Bool, true, false, List, [], ◌∷◌, ◌++◌, Ok, codes}
 use Rattle.std.specs.List.{list_all, list_any}
 use Rattle.fs_text.specs.Words.{is_byte}
 use Rattle.fs_xml.specs.declared.attribute.Ending.{Ending}
@@ -14,6 +14,11 @@ pub record Pair : Type 0 where
 
 abbrev pub AreBlank : List ℕ → Type 0
 AreBlank bytes = list_all is_blank bytes ≡ true
+
+-- the first byte does not pass, if there is one
+abbrev pub Stops : (ℕ → Bool) → List ℕ → Type 0
+Stops p [] = Unit {0}
+Stops p (b ∷ bytes) = p b ≡ false
 
 -- bytes of a name, the first of which may begin one
 pub record IsName (name : List ℕ) : Type 0 where

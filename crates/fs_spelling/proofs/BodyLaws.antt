@@ -45,7 +45,7 @@ end_read end gap ending rest blank =
     ∙ end_on end (length (ending_text ending ++ rest) == length whole) ending rest
 
 -- an attribute has a byte at least
-attribute_long : (bytes : List ℕ) (pair : Pair) → IsAttribute bytes pair → 0 < length bytes
+pub attribute_long : (bytes : List ℕ) (pair : Pair) → IsAttribute bytes pair → 0 < length bytes
 attribute_long bytes pair is = by is.before is.apart is.whole
   where
     by : (before : List ℕ) → before ≢ [] → bytes ≡ before

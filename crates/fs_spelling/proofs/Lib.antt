@@ -5,6 +5,7 @@ pub mod LooseLaws
 pub mod AttributeLaws
 pub mod BodyLaws
 pub mod PartLaws
+pub mod StartLaws
 pub mod MarkLaws
 pub mod TextLaws
 pub mod ElementLaws

@@ -7,6 +7,7 @@ pub mod BodyLaws
 pub mod PartLaws
 pub mod StartLaws
 pub mod MarkLaws
+pub mod CutLaws
 pub mod TextLaws
 pub mod ElementLaws
 pub mod Again

@@ -25,7 +25,7 @@ use Rattle.fs_spelling.proofs.BodyLaws.{spelt_body_at, taken_body_at, body_stops
 abbrev Rests : Type 0
 Rests = Result (List ℕ) TagStop
 
-abbrev tail_stands : List ℕ → Bool
+abbrev pub tail_stands : List ℕ → Bool
 tail_stands bytes = starts_with nat_eq bytes (codes "-->")
 
 and_never : (x : Bool) → (x && false) ≡ true → ⊥
@@ -105,7 +105,7 @@ comment_on (b ∷ body) rest more e = by (tail_stands (b ∷ body)) refl e (comm
         ∙ chosen_rest t h again
 
 -- the bytes of a comment, up to the end of its tail
-record TakesBodyOf (text rest : List ℕ) : Type 0 where
+pub record TakesBodyOf (text rest : List ℕ) : Type 0 where
   pub body : List ℕ
   pub whole : text ≡ body ++ rest
   pub ends : comment_end body ≡ Ok []
@@ -136,7 +136,7 @@ one_more a text rest none taken =
       ends = ap (λ t. cond t (rested (drop 3 (a ∷ taken.body))) (comment_end taken.body)) tail ∙ taken.ends;
     }
 
-comment_taken : (text rest : List ℕ) → comment_end text ≡ Ok rest → TakesBodyOf text rest
+pub comment_taken : (text rest : List ℕ) → comment_end text ≡ Ok rest → TakesBodyOf text rest
 comment_taken [] rest e = absurd (cc)
 comment_taken (a ∷ text) rest e = by (tail_stands (a ∷ text)) refl e (comment_taken text rest)
   where
@@ -159,14 +159,14 @@ end_begun : (b : ℕ) (bytes : List ℕ) → begins_name b ≡ true →
 unfolding end_at
 end_begun b bytes begins = rw begins refl
 
-begun_read : (name bytes : List ℕ) → IsName name →
+pub begun_read : (name bytes : List ℕ) → IsName name →
     end_at (name ++ bytes) ≡ closed_at (name_of (name ++ bytes)) (past is_blank (past is_name_byte (name ++ bytes)))
 begun_read name bytes is =
     let P : List ℕ → Type 0 =
     λ n. end_at (n ++ bytes) ≡ closed_at (name_of (n ++ bytes)) (past is_blank (past is_name_byte (n ++ bytes))) in
     subst P (sym is.whole) (end_begun is.first (is.others ++ bytes) is.begins)
 
-greater_stops : (is_name_byte 62 ≡ false) × (is_blank 62 ≡ false)
+pub greater_stops : (is_name_byte 62 ≡ false) × (is_blank 62 ≡ false)
 unfolding is_name_byte is_blank is_quote is_mark
 greater_stops = (refl, refl)
 
@@ -181,7 +181,7 @@ closed_read name gap rest is blank =
     ∙ ap (λ r. closed_at name (past is_blank r)) (past_run is_name_byte name tail passes stops)
     ∙ ap (closed_at name) (past_run is_blank gap (62 ∷ rest) blank greater_stops.1)
 
-end_seam : (name gap rest : List ℕ) → (name ++ (gap ++ (62 ∷ []))) ++ rest ≡ name ++ (gap ++ (62 ∷ rest))
+pub end_seam : (name gap rest : List ℕ) → (name ++ (gap ++ (62 ∷ []))) ++ rest ≡ name ++ (gap ++ (62 ∷ rest))
 end_seam name gap rest = simp append_assoc
 
 pub spelt_end : (end : ℕ) (bytes name rest : List ℕ) → IsEndTag bytes name → mark_at end (bytes ++ rest) ≡ Ok (End name, rest)
@@ -198,7 +198,7 @@ started end b bytes begins =
     let no = no_mark b (name_byte b (first_byte b begins)).no_mark in
     rw (no_declared b begins, no.no_slash, begins) refl
 
-start_read : (end : ℕ) (name bytes : List ℕ) → IsName name → mark_at end (name ++ bytes) ≡ start_at end (name ++ bytes)
+pub start_read : (end : ℕ) (name bytes : List ℕ) → IsName name → mark_at end (name ++ bytes) ≡ start_at end (name ++ bytes)
 start_read end name bytes is =
     let P : List ℕ → Type 0 = λ n. mark_at end (n ++ bytes) ≡ start_at end (n ++ bytes) in
     subst P (sym is.whole) (started end is.first (is.others ++ bytes) is.begins)
@@ -234,7 +234,7 @@ marked x = Ok x
 same_mark : (x y : Mark × List ℕ) → marked x ≡ marked y → x ≡ y
 same_mark x y e = cc
 
-dashes_taken : (bytes rest : List ℕ) → comment_at bytes ≡ Ok rest → Takes IsComment (33 ∷ bytes) rest
+pub dashes_taken : (bytes rest : List ℕ) → comment_at bytes ≡ Ok rest → Takes IsComment (33 ∷ bytes) rest
 unfolding comment_at second_dash_at
 dashes_taken [] rest e = absurd (cc)
 dashes_taken (b ∷ []) rest e = by (b == 45) e

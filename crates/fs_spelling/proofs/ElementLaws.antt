@@ -35,7 +35,7 @@ use Rattle.fs_spelling.proofs.ValueLaws as values
 text_anywhere : (raw : Bool) (end other : ℕ) (v t : Text) → value_text raw end v ≡ Ok t → value_text raw other v ≡ Ok t
 text_anywhere raw end other v t e = values.value_spelt raw other v t (values.value_read raw end v t e)
 
-abbrev onward : Bool → Pairs → Values → Values
+abbrev pub onward : Bool → Pairs → Values → Values
 onward foreign globals read = read >>= λ text. Ok (cond foreign text (replaced globals text))
 
 -- nor does it whether it may be inline
@@ -63,7 +63,7 @@ may_loose globals name (a ∷ attrs) = by (bytes_eq a.name name) (may_loose glob
     by false more = more
 
 -- the tag without its offsets
-abbrev bare : Tagged → Tagged
+abbrev pub bare : Tagged → Tagged
 bare e = tag_of e.kind e.globals (map pair_of e.attrs)
 
 may_bare : (e : Tagged) → application_may e ≡ application_may (bare e)
@@ -91,19 +91,19 @@ fault_bare kind.Action e name text = inline_bare e name text
 fault_bare kind.AntiAction e name text = inline_bare e name text
 fault_bare kind.Foreign e name text = refl
 
-value_bare : (e : Tagged) (name text : Text) → value_fault e name text ≡ value_fault (bare e) name text
+pub value_bare : (e : Tagged) (name text : Text) → value_fault e name text ≡ value_fault (bare e) name text
 unfolding value_fault
 value_bare e name text = fault_bare e.kind e name text
 
 -- ---- what is said is read
 
-text_said : (e : Tagged) (a : Written) (decoded : Text) → SpellsValue (is_foreign e.kind) a.value decoded →
+pub text_said : (e : Tagged) (a : Written) (decoded : Text) → SpellsValue (is_foreign e.kind) a.value decoded →
     text_read e a ≡ Ok (text_with_globals e decoded)
 unfolding text_read value_read
 text_said e a decoded spelt =
     ap (λ r. text_on a.at (onward (is_foreign e.kind) e.globals r)) (values.value_spelt (is_foreign e.kind) a.end a.value decoded spelt)
 
-attribute_said : (e : Tagged) (before : Pairs) (a : Written) (decoded : Text) → has before a.name ≡ false → is_timed e.kind a.name ≡ false →
+pub attribute_said : (e : Tagged) (before : Pairs) (a : Written) (decoded : Text) → has before a.name ≡ false → is_timed e.kind a.name ≡ false →
     SpellsValue (is_foreign e.kind) a.value decoded
     → value_fault (bare e) a.name (text_with_globals e decoded) ≡ None → attribute_read e before a ≡ Ok
     (before ++ (a.name, text_with_globals e decoded) ∷ [])
@@ -116,7 +116,7 @@ attribute_said e before a decoded new untimed spelt fine =
     (value_bare e a.name (text_with_globals e decoded) ∙ fine)
     )
 
-all_said : (e : Tagged) (before : Pairs) (attrs : List Written) (texts : Pairs) → Say (bare e) before (map pair_of attrs) texts →
+pub all_said : (e : Tagged) (before : Pairs) (attrs : List Written) (texts : Pairs) → Say (bare e) before (map pair_of attrs) texts →
     attributes_read e before attrs ≡ Ok texts
 all_said e before [] texts (SayNoMore _ _) = refl
 all_said e before (a ∷ attrs) texts (SayOneMore _ _ _ _ decoded _ new untimed spelt fine say) =
@@ -151,12 +151,12 @@ same_texts : (x y : Pairs) → texts_read x ≡ texts_read y → x ≡ y
 same_texts x y e = cc
 
 -- a text that is read is said
-record IsSaid (e : Tagged) (a : Written) (text : Text) : Type 0 where
+pub record IsSaid (e : Tagged) (a : Written) (text : Text) : Type 0 where
   pub decoded : Text
   pub spelt : SpellsValue (is_foreign e.kind) a.value decoded
   pub text_is : text ≡ text_with_globals e decoded
 
-text_is_said : (e : Tagged) (a : Written) (text : Text) → text_read e a ≡ Ok text → IsSaid e a text
+pub text_is_said : (e : Tagged) (a : Written) (text : Text) → text_read e a ≡ Ok text → IsSaid e a text
 unfolding text_read value_read
 text_is_said e a text h = by (value_text (is_foreign e.kind) a.end a.value) refl h
   where
@@ -169,7 +169,7 @@ text_is_said e a text h = by (value_text (is_foreign e.kind) a.end a.value) refl
     by (Err (value.BadEntity amp)) is k = absurd (cc)
 
 -- one attribute that is read
-record OneSaid (e : Tagged) (before : Pairs) (a : Written) (next : Pairs) : Type 0 where
+pub record OneSaid (e : Tagged) (before : Pairs) (a : Written) (next : Pairs) : Type 0 where
   pub decoded : Text
   pub new : has before a.name ≡ false
   pub untimed : is_timed e.kind a.name ≡ false
@@ -181,7 +181,7 @@ no_fault : (tag at : ℕ) (f : Option DocKind) (pairs next : Pairs) → unless_f
 no_fault tag at None pairs next e = (refl, same_texts pairs next e)
 no_fault tag at (Some k) pairs next e = absurd (cc)
 
-attribute_is_said : (e : Tagged) (before : Pairs) (a : Written) (next : Pairs) → attribute_read e before a ≡ Ok next →
+pub attribute_is_said : (e : Tagged) (before : Pairs) (a : Written) (next : Pairs) → attribute_read e before a ≡ Ok next →
     OneSaid e before a next
 unfolding attribute_read
 attribute_is_said e before a next h = by (has before a.name) (is_timed e.kind a.name) refl refl h
@@ -207,7 +207,7 @@ attribute_is_said e before a next h = by (has before a.name) (is_timed e.kind a.
           next_is = sym fine.1 ∙ ap (λ text. before ++ (a.name, text) ∷ []) said.text_is;
         }
 
-all_are_said : (e : Tagged) (before : Pairs) (attrs : List Written) (texts : Pairs) → attributes_read e before attrs ≡ Ok texts →
+pub all_are_said : (e : Tagged) (before : Pairs) (attrs : List Written) (texts : Pairs) → attributes_read e before attrs ≡ Ok texts →
     Say (bare e) before (map pair_of attrs) texts
 all_are_said e before [] texts h =
     let P : Pairs → Type 0 = λ t. Say (bare e) before [] t in subst P (same_texts before texts h) (SayNoMore (bare e) before)

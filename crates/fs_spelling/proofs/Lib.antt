@@ -8,6 +8,7 @@ pub mod PartLaws
 pub mod StartLaws
 pub mod MarkLaws
 pub mod CutLaws
+pub mod WrongValues
 pub mod TextLaws
 pub mod ElementLaws
 pub mod Again

@@ -257,7 +257,7 @@ broken_rest end at text gap front b more whole blank loose malformed passes plac
         ∙ ap (λ (r : Result (List ℕ) TagStop). r >>= λ x. Ok (Broken (offset other (rest ++ [])), x))
         (ap (tag_end None) (append-nil rest) ∙ passes (more ++ mine) ∙ stays mine)
 
-no_half : (quote : ℕ) (text : List ℕ) → halves_of quote text ≡ None → list_any (is_byte quote) text ≡ false
+pub no_half : (quote : ℕ) (text : List ℕ) → halves_of quote text ≡ None → list_any (is_byte quote) text ≡ false
 unfolding halves_of
 no_half quote text e = by (list_any (is_byte quote) text) e
   where

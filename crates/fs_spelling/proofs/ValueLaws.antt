@@ -16,7 +16,7 @@ use Rattle.fs_spelling.specs.Values.{SpellsValue, Nothing, Plain, Mark, Entity}
 -- ---- one step
 
 -- a plain byte is the text so far's
-plain_step : (raw : Bool) (end : ℕ) (so_far : List ℕ) (b : ℕ) (value : List ℕ) → is_special b ≡ false
+pub plain_step : (raw : Bool) (end : ℕ) (so_far : List ℕ) (b : ℕ) (value : List ℕ) → is_special b ≡ false
     → value_step raw end so_far (b ∷ value) ≡ value_step raw end (so_far ++ b ∷ []) value
 unfolding value_step
 plain_step raw end so_far b value plain =
@@ -26,7 +26,7 @@ plain_step raw end so_far b value plain =
     ∙ ap (λ text. special_at raw end text (drop n value)) (sym (append_assoc so_far (b ∷ []) (take n value)))
 
 -- `&` and `<` are read at once
-special_step : (raw : Bool) (end : ℕ) (so_far : List ℕ) (b : ℕ) (value : List ℕ) → is_special b ≡ true
+pub special_step : (raw : Bool) (end : ℕ) (so_far : List ℕ) (b : ℕ) (value : List ℕ) → is_special b ≡ true
     → value_step raw end so_far (b ∷ value) ≡ special_at raw end so_far (b ∷ value)
 unfolding value_step
 special_step raw end so_far b value special =
@@ -35,18 +35,18 @@ special_step raw end so_far b value special =
     ∙ ap (λ text. special_at raw end text (b ∷ value)) (append-nil so_far)
 
 -- nothing is left
-last_step : (raw : Bool) (end : ℕ) (so_far : List ℕ) → value_step raw end so_far [] ≡ Ok (so_far ++ [], None)
+pub last_step : (raw : Bool) (end : ℕ) (so_far : List ℕ) → value_step raw end so_far [] ≡ Ok (so_far ++ [], None)
 unfolding value_step special_at
 last_step raw end so_far = refl
 
 -- ---- what a value says is read
 
-followed : (more : ℕ) (raw : Bool) (end : ℕ) (so_far value : List ℕ) (step : Decoded) → value_step raw end so_far value ≡ step
+pub followed : (more : ℕ) (raw : Bool) (end : ℕ) (so_far value : List ℕ) (step : Decoded) → value_step raw end so_far value ≡ step
     → value_within (suc more) raw end so_far value ≡ (step >>= λ x. value_on (λ next rest. value_within more raw end next rest) x)
 followed more raw end so_far value step e = ap (λ s. s >>= λ x. value_on (λ next rest. value_within more raw end next rest) x) e
 
 -- the text behind an entity
-entity_step : (raw : Bool) (end : ℕ) (so_far name value : List ℕ) (c : ℕ) → list_any (is_byte 59) name ≡ false → entity name ≡ Some c
+pub entity_step : (raw : Bool) (end : ℕ) (so_far name value : List ℕ) (c : ℕ) → list_any (is_byte 59) name ≡ false → entity name ≡ Some c
     → value_step raw end so_far (38 ∷ (name ++ (59 ∷ value))) ≡ Ok (so_far ++ encode_utf8 c, Some value)
 unfolding special_at entity_at
 entity_step raw end so_far name value c plain is =
@@ -78,7 +78,7 @@ spelt_value raw value text (Entity _ name rest more_text c plain is spelt) (suc 
 -- ---- what is read is said by the value
 
 -- the value says what stands behind the text so far
-specials : (b : ℕ) → is_special b ≡ true → (b ≡ 38) ⊎ (b ≡ 60)
+pub specials : (b : ℕ) → is_special b ≡ true → (b ≡ 38) ⊎ (b ≡ 60)
 specials b special = by (b == 38) (b == 60) (eqb-true b 38) (eqb-true b 60) special
   where
     by : (s t : Bool) → (s ≡ true → b ≡ 38) → (t ≡ true → b ≡ 60) → (s || t) ≡ true → (b ≡ 38) ⊎ (b ≡ 60)
@@ -117,7 +117,7 @@ said_entity raw so_far name value whole c plain is said = record {
   spelt = Entity raw name value said.text c plain is said.spelt;
 }
 
-abbrev Onward : ℕ → Bool → ℕ → Decoded → Values
+abbrev pub Onward : ℕ → Bool → ℕ → Decoded → Values
 Onward more raw end step = step >>= λ x. value_on (λ next rest. value_within more raw end next rest) x
 
 -- an `&` that is read is an entity

@@ -11,6 +11,7 @@ pub mod CutLaws
 pub mod WrongValues
 pub mod TextLaws
 pub mod ElementLaws
+pub mod WrongElements
 pub mod Again
 pub mod Sound
 pub mod Whole

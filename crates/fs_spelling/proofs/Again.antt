@@ -47,11 +47,10 @@ round_goes end r before bytes rest mark next filler reads enters =
     ∙ ap (λ (m : Result (Mark × Text) DocFault). m >>= λ x. (mark_entered at x.0 r >>= λ n. Ok (On n x.1))) (reads at)
     ∙ ap (λ (e : Result ReadSoFar DocFault). e >>= λ n. Ok (On n rest)) (enters at)
 
-one_round : (end : ℕ) (x : Content) (r : ReadSoFar) (bytes : Text) (next : ReadSoFar) (rest : Text) (more : ℕ) →
-    round end r bytes ≡ Ok (On next rest)
-    → read_within more end next rest ≡ Ok x → read_within (suc more) end r bytes ≡ Ok x
-one_round end x r bytes next rest more goes reads =
-    ap (λ (n : Result Next DocFault). n >>= λ y. with_round (λ s behind. read_within more end s behind) y) goes ∙ reads
+pub one_round : (end : ℕ) (r : ReadSoFar) (bytes : Text) (next : ReadSoFar) (rest : Text) (more : ℕ) →
+    round end r bytes ≡ Ok (On next rest) → read_within (suc more) end r bytes ≡ read_within more end next rest
+one_round end r bytes next rest more goes =
+    ap (λ (n : Result Next DocFault). n >>= λ y. with_round (λ s behind. read_within more end s behind) y) goes
 
 -- ---- markup that is read
 
@@ -122,19 +121,12 @@ end_enters at opened inner name c =
 
 -- ---- what stands inside
 
--- with no more than so many rounds
-pub record ReadsSo (end : ℕ) (opened : List Opened) (c : Content) (bytes : Text) (x : Content) (most : ℕ) : Type 0 where
-  pub fuel : ℕ
-  pub within : fuel ≤ most
-  pub reads : read_within fuel end (state opened c) bytes ≡ Ok x
-
-moved : (end : ℕ) (opened : List Opened) (c : Content) (bytes other : Text) (x : Content) (most more : ℕ) →
-    ReadsSo end opened c bytes x most → other ≡ bytes → most ≤ more → ReadsSo end opened c other x more
-moved end opened c bytes other x most more so same fewer = record {
-  fuel = so.fuel;
-  within = omega (arith, so.within, fewer);
-  reads = ap (read_within so.fuel end (state opened c)) same ∙ so.reads;
-}
+-- so many rounds go past the bytes in front
+pub record Passes (end : ℕ) (opened : List Opened) (c : Content) (bytes : Text) (d : Content) (rest : Text) (most : ℕ) : Type 0 where
+  pub rounds : ℕ
+  pub within : rounds ≤ most
+  pub goes : (fuel more : ℕ) → fuel ≡ rounds + more →
+      read_within fuel end (state opened c) bytes ≡ read_within more end (state opened d) rest
 
 item_seam : (text before mark rest : Text) → (text ++ (before ++ (60 ∷ mark))) ++ rest ≡ text ++ (before ++ ((60 ∷ mark) ++ rest))
 item_seam text before mark rest =
@@ -162,83 +154,93 @@ filler_here : (opened : List Opened) (outer : Level) (text : Text) → level_in 
     IsFiller (level_in opened) text
 filler_here opened outer text here filler = let P : Level → Type 0 = λ l. IsFiller l text in subst P (sym here) filler
 
-pub goes : (end : ℕ) (x : Content) (outer : Level) (c : Content) (text : Text) (d : Content) → Inside outer c text d →
-    (opened : List Opened) → level_in opened ≡ outer
-    → (rest : Text) (more : ℕ) → read_within more end (state opened d) rest ≡ Ok x
-    → ReadsSo end opened c (text ++ rest) x (more + length text)
-goes end x outer c text d (Bare _ _) opened here rest more reads = record { fuel = more; within = omega arith; reads = reads }
-goes end x outer c text d (Remark _ _ _ front before mark ins may filler is) opened here rest more reads =
+-- the tag of an element that opens, whatever stands behind it
+pub open_round : (end : ℕ) {outer : Level} (opened : List Opened) → level_in opened ≡ outer → (before tag tail name : Text)
+    (pairs : List Pair) (inner : Level) (c d : Content) → IsFiller outer before → IsTag tag name pairs Opens
+    → Begins outer c name pairs inner d
+    → round end (state opened c) (before ++ ((60 ∷ tag) ++ tail))
+    ≡ Ok (On (state (record { level = inner; name = name } ∷ opened) d) tail)
+open_round end {outer = outer} opened here before tag tail name pairs inner c d filler is begins =
+    let tagged = spelt_tag end tag name pairs Opens tail is in
+    let body : BodyText = record { attrs = tagged.attrs; malformed = None; ending = Opens } in
+    round_goes end (state opened c) before tag tail (Start name body) (state (record { level = inner; name = name } ∷ opened) d)
+    (filler_here opened outer before here filler)
+    (λ at. tag_is_read c.done (is_outside opened) end at tag name pairs Opens tail is tagged)
+    (λ at. tag_enters at opened c d outer inner name pairs body here refl tagged.same begins)
+
+-- what stands inside is passed, whatever stands behind it
+pub goes : (end : ℕ) (outer : Level) (c : Content) (text : Text) (d : Content) → Inside outer c text d →
+    (opened : List Opened) → level_in opened ≡ outer → (rest : Text) → Passes end opened c (text ++ rest) d rest (length text)
+goes end outer c text d (Bare _ _) opened here rest = record {
+  rounds = 0;
+  within = omega arith;
+  goes = λ fuel more enough. ap (λ n. read_within n end (state opened c) rest) (enough ∙ omega arith);
+}
+goes end outer c text d (Remark _ _ _ front before mark ins may filler is) opened here rest =
     let r = state opened d in
+    let tail = before ++ ((60 ∷ mark) ++ rest) in
+    let on = goes end outer c front d ins opened here tail in
     let goes_round =
     round_goes end r before mark rest Comment r (filler_here opened outer before here filler)
     (λ at. comment_is_read d.done (is_outside opened) end at mark rest is) (λ at. comment_enters at opened d outer here may) in
-    let first = one_round end x r (before ++ ((60 ∷ mark) ++ rest)) r rest more goes_round reads in
-    let on = goes end x outer c front d ins opened here (before ++ ((60 ∷ mark) ++ rest)) (suc more) first in
-    moved end opened c (front ++ (before ++ ((60 ∷ mark) ++ rest))) ((front ++ (before ++ (60 ∷ mark))) ++ rest) x (suc more + length front)
-    (more + length (front ++ (before ++ (60 ∷ mark)))) on
-    (item_seam front before mark rest) (omega (arith, item_long front before mark))
-goes end x outer c text d (Leaf _ inner _ middle e front before tag name pairs ins filler is begins) opened here rest more reads =
+    record {
+      rounds = suc on.rounds;
+      within = omega (arith, on.within, item_long front before mark);
+      goes = λ fuel more enough.
+          ap (read_within fuel end (state opened c)) (item_seam front before mark rest)
+          ∙ on.goes fuel (suc more) (enough ∙ omega arith) ∙ one_round end r tail r rest more goes_round;
+    }
+goes end outer c text d (Leaf _ inner _ middle e front before tag name pairs ins filler is begins) opened here rest =
     let tagged = spelt_tag end tag name pairs Closes rest is in
     let body : BodyText = record { attrs = tagged.attrs; malformed = None; ending = Closes } in
     let r = state opened middle in
     let next = state opened (element_ended inner e) in
+    let tail = before ++ ((60 ∷ tag) ++ rest) in
+    let on = goes end outer c front middle ins opened here tail in
     let goes_round =
     round_goes end r before tag rest (Start name body) next (filler_here opened outer before here filler)
     (λ at. tag_is_read middle.done (is_outside opened) end at tag name pairs Closes rest is tagged)
     (λ at. tag_enters at opened middle e outer inner name pairs body here refl tagged.same begins) in
-    let first = one_round end x r (before ++ ((60 ∷ tag) ++ rest)) next rest more goes_round reads in
-    let on = goes end x outer c front middle ins opened here (before ++ ((60 ∷ tag) ++ rest)) (suc more) first in
-    moved end opened c (front ++ (before ++ ((60 ∷ tag) ++ rest))) ((front ++ (before ++ (60 ∷ tag))) ++ rest) x (suc more + length front)
-    (more + length (front ++ (before ++ (60 ∷ tag)))) on
-    (item_seam front before tag rest) (omega (arith, item_long front before tag))
-goes end x outer c text d (Holder _ inner _ middle e f front before tag held behind close name pairs ins filler is begins held_is
-    filler_behind closes) opened here rest more reads =
+    record {
+      rounds = suc on.rounds;
+      within = omega (arith, on.within, item_long front before tag);
+      goes = λ fuel more enough.
+          ap (read_within fuel end (state opened c)) (item_seam front before tag rest)
+          ∙ on.goes fuel (suc more) (enough ∙ omega arith) ∙ one_round end r tail next rest more goes_round;
+    }
+goes end outer c text d (Holder _ inner _ middle e f front before tag held behind close name pairs ins filler is begins held_is
+    filler_behind closes) opened here rest =
     let deeper : List Opened = record { level = inner; name = name } ∷ opened in
-    let last = one_round end x (state deeper f) (behind ++ ((60 ∷ close) ++ rest)) (state opened (element_ended inner f)) rest more
-    (round_goes end (state deeper f) behind close rest (End name) (state opened (element_ended inner f)) filler_behind
-    (λ at. end_is_read f.done end at close name rest closes) (λ at. end_enters at opened inner name f)) reads in
-    let tail = held ++ (behind ++ ((60 ∷ close) ++ rest)) in
-    let inside = goes end x inner e held f held_is deeper refl (behind ++ ((60 ∷ close) ++ rest)) (suc more) last in
-    let tagged = spelt_tag end tag name pairs Opens tail is in
-    let body : BodyText = record { attrs = tagged.attrs; malformed = None; ending = Opens } in
+    let last = behind ++ ((60 ∷ close) ++ rest) in
+    let after = state opened (element_ended inner f) in
+    let last_goes =
+    round_goes end (state deeper f) behind close rest (End name) after filler_behind
+    (λ at. end_is_read f.done end at close name rest closes) (λ at. end_enters at opened inner name f) in
+    let tail = held ++ last in
+    let inside = goes end inner e held f held_is deeper refl last in
     let r = state opened middle in
-    let goes_round =
-    round_goes end r before tag tail (Start name body) (state deeper e) (filler_here opened outer before here filler)
-    (λ at. tag_is_read middle.done (is_outside opened) end at tag name pairs Opens tail is tagged)
-    (λ at. tag_enters at opened middle e outer inner name pairs body here refl tagged.same begins) in
-    let first = one_round end x r (before ++ ((60 ∷ tag) ++ tail)) (state deeper e) tail inside.fuel goes_round inside.reads in
-    let on = goes end x outer c front middle ins opened here (before ++ ((60 ∷ tag) ++ tail)) (suc inside.fuel) first in
-    moved end opened c (front ++ (before ++ ((60 ∷ tag) ++ tail)))
-    ((front ++ (before ++ ((60 ∷ tag) ++ (held ++ (behind ++ (60 ∷ close)))))) ++ rest) x (suc inside.fuel + length front)
-    (more + length (front ++ (before ++ ((60 ∷ tag) ++ (held ++ (behind ++ (60 ∷ close))))))) on
-    (holder_seam front before tag held behind close rest) (omega (arith, inside.within, holder_long front before tag held behind close))
+    let whole = before ++ ((60 ∷ tag) ++ tail) in
+    let on = goes end outer c front middle ins opened here whole in
+    record {
+      rounds = suc (suc (on.rounds + inside.rounds));
+      within = omega (arith, on.within, inside.within, holder_long front before tag held behind close);
+      goes = λ fuel more enough.
+          ap (read_within fuel end (state opened c)) (holder_seam front before tag held behind close rest)
+          ∙ on.goes fuel (suc (inside.rounds + suc more)) (enough ∙ omega arith)
+          ∙ one_round end r whole (state deeper e) tail (inside.rounds + suc more)
+          (open_round end opened here before tag tail name pairs inner middle e filler is begins)
+          ∙ inside.goes (inside.rounds + suc more) (suc more) refl
+          ∙ one_round end (state deeper f) last after rest more last_goes;
+    }
 
 -- ---- the end
 
-pub last_round : (end : ℕ) (c : Content) (behind : Text) → AreBlank behind → c.done ≡ true → read_within 1 end (state [] c) behind ≡ Ok c
+pub last_round : (end : ℕ) (c : Content) (behind : Text) (more : ℕ) → AreBlank behind → c.done ≡ true →
+    read_within (suc more) end (state [] c) behind ≡ Ok c
 unfolding round at_mark
-last_round end c behind blank done =
+last_round end c behind more blank done =
     let whole : behind ≡ behind ++ [] = sym (append-nil behind) in
-    ap (λ b. read_within 1 end (state [] c) b) whole
+    ap (λ b. read_within (suc more) end (state [] c) b) whole
     ∙ ap (λ (t : Result Text DocFault). (t >>= λ rest. at_mark end (state [] c) rest) >>= λ y. with_round
-    (λ s rest. read_within 0 end s rest) y) (text_read end level.Top behind [] blank tt)
-    ∙ ap (λ t. cond t (Ok (Over c)) (fault end kinds.Truncated) >>= λ y. with_round (λ s rest. read_within 0 end s rest) y) done
-
--- more rounds change nothing
-pub more_fuel : (end : ℕ) (x : Content) (m n : ℕ) (r : ReadSoFar) (bytes : Text) → m ≤ n → read_within m end r bytes ≡ Ok x →
-    read_within n end r bytes ≡ Ok x
-more_fuel end x zero n r bytes fewer e = absurd (cc)
-more_fuel end x (suc m) zero r bytes fewer e = absurd (omega arith)
-more_fuel end x (suc m) (suc n) r bytes fewer e = by (λ s rest h. more_fuel end x m n s rest (omega arith) h) (round end r bytes) e
-  where
-    on : ((s : ReadSoFar) (rest : Text) → read_within m end s rest ≡ Ok x → read_within n end s rest ≡ Ok x) → (y : Next) →
-        with_round (λ s rest. read_within m end s rest) y ≡ Ok x
-        → with_round (λ s rest. read_within n end s rest) y ≡ Ok x
-    on again (Over c) h = h
-    on again (On s rest) h = again s rest h
-
-    by : ((s : ReadSoFar) (rest : Text) → read_within m end s rest ≡ Ok x → read_within n end s rest ≡ Ok x) → (y : Result Next DocFault)
-        → (y >>= λ z. with_round (λ s rest. read_within m end s rest) z) ≡ Ok x
-        → (y >>= λ z. with_round (λ s rest. read_within n end s rest) z) ≡ Ok x
-    by again (Ok y) h = on again y h
-    by again (Err f) h = absurd (cc)
+    (λ s rest. read_within more end s rest) y) (text_read end level.Top behind [] blank tt)
+    ∙ ap (λ t. cond t (Ok (Over c)) (fault end kinds.Truncated) >>= λ y. with_round (λ s rest. read_within more end s rest) y) done

@@ -1,5 +1,5 @@
 -- The bytes of a document are read as what they spell, and what is read of them is spelt.
-use Rattle.std.proofs.Common.{◌≡◌, ℕ, ◌+◌, ◌≤◌, Bool, true, false, cond, ◌==◌, [], ◌∷◌, ◌++◌, length, Result, Ok, refl, sym, ap, ◌∙◌, ◌⊎◌}
+use Rattle.std.proofs.Common.{◌≡◌, ℕ, suc, ◌+◌, ◌-◌, ◌≤◌, Bool, true, false, cond, ◌==◌, [], ◌∷◌, ◌++◌, length, Result, Ok, refl, sym, ap, ◌∙◌, ◌⊎◌}
 use Rattle.std.proofs.Common.{inl, inr, subst, append-nil, nat_lt, arith}
 use Rattle.std.specs.List.{take_while}
 use Rattle.std.proofs.lemmas.List.{length-append}
@@ -19,7 +19,7 @@ use Rattle.fs_spelling.specs.Tags.{AreBlank}
 use Rattle.fs_spelling.specs.Documents.{IsDocument, Spells}
 use Rattle.fs_spelling.proofs.Binds.{bind_ok}
 use Rattle.fs_spelling.proofs.Runs.{past_run, run_passes}
-use Rattle.fs_spelling.proofs.Again.{state, goes, last_round, more_fuel}
+use Rattle.fs_spelling.proofs.Again.{state, goes, last_round}
 use Rattle.fs_spelling.proofs.Sound.{read_is_found}
 
 -- ---- a document that is not blank
@@ -29,10 +29,10 @@ unfolding content_of document_of
 document_read bytes content is =
     let end = length bytes in
     let rest = is.text ++ is.behind in
-    let last = last_round end content is.behind is.blank is.done in
-    let all = goes end content level.Top new_content is.text content is.inside [] refl is.behind 1 last in
-    let enough : all.fuel ≤ length rest + 1 = omega (arith, all.within, length-append is.text is.behind) in
-    let read = more_fuel end content all.fuel (length rest + 1) (state [] new_content) rest enough all.reads in
+    let all = goes end level.Top new_content is.text content is.inside [] refl is.behind in
+    let left = length rest - all.rounds in
+    let enough : length rest + 1 ≡ all.rounds + suc left = omega (arith, all.within, length-append is.text is.behind) in
+    let read = all.goes (length rest + 1) (suc left) enough ∙ last_round end content is.behind left is.blank is.done in
     ap (λ (r : Result Text DocFault). r >>= λ t. read_within (length t + 1) end (state [] new_content) t) is.declared ∙ read
 
 abbrev declared_read : Text → Result Text DocFault

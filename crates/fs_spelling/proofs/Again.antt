@@ -54,10 +54,10 @@ one_round end r bytes next rest more goes =
 
 -- ---- markup that is read
 
-no_slash : (b : ℕ) (bytes : Text) → (b == 47) ≡ false → starts_with nat_eq (b ∷ bytes) (codes "/") ≡ false
+pub no_slash : (b : ℕ) (bytes : Text) → (b == 47) ≡ false → starts_with nat_eq (b ∷ bytes) (codes "/") ≡ false
 no_slash b bytes other = grind (arith, nat_tests)
 
-mark_is_read : (done outside : Bool) (end at : ℕ) (bytes rest : Text) (mark : Mark) →
+pub mark_is_read : (done outside : Bool) (end at : ℕ) (bytes rest : Text) (mark : Mark) →
     starts_with nat_eq (bytes ++ rest) (codes "/") ≡ false → mark_at end (bytes ++ rest) ≡ Ok (mark, rest)
     → mark_read done outside end at (bytes ++ rest) ≡ Ok (mark, rest)
 unfolding mark_read
@@ -65,13 +65,13 @@ mark_is_read done true end at bytes rest mark other is =
     ap (λ s. cond s (fault at kinds.BadTag) (mark_or done end at (mark_at end (bytes ++ rest)))) other ∙ ap (mark_or done end at) is
 mark_is_read done false end at bytes rest mark other is = ap (mark_or done end at) is
 
-comment_is_read : (done outside : Bool) (end at : ℕ) (bytes rest : Text) → IsComment bytes →
+pub comment_is_read : (done outside : Bool) (end at : ℕ) (bytes rest : Text) → IsComment bytes →
     mark_read done outside end at (bytes ++ rest) ≡ Ok (Comment, rest)
 comment_is_read done outside end at bytes rest is =
     let P : Text → Type 0 = λ b. starts_with nat_eq (b ++ rest) (codes "/") ≡ false in
     mark_is_read done outside end at bytes rest Comment (subst P (sym is.whole) refl) (spelt_comment end bytes rest is)
 
-end_is_read : (done : Bool) (end at : ℕ) (bytes name rest : Text) → IsEndTag bytes name →
+pub end_is_read : (done : Bool) (end at : ℕ) (bytes name rest : Text) → IsEndTag bytes name →
     mark_read done false end at (bytes ++ rest) ≡ Ok (End name, rest)
 unfolding mark_read
 end_is_read done end at bytes name rest is = ap (mark_or done end at) (spelt_end end bytes name rest is)
@@ -150,7 +150,7 @@ holder_long text before tag held behind close =
     let e = length-append behind (60 ∷ close) in
     omega arith
 
-filler_here : (opened : List Opened) (outer : Level) (text : Text) → level_in opened ≡ outer → IsFiller outer text →
+pub filler_here : (opened : List Opened) (outer : Level) (text : Text) → level_in opened ≡ outer → IsFiller outer text →
     IsFiller (level_in opened) text
 filler_here opened outer text here filler = let P : Level → Type 0 = λ l. IsFiller l text in subst P (sym here) filler
 

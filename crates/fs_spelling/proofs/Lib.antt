@@ -14,4 +14,5 @@ pub mod ElementLaws
 pub mod WrongElements
 pub mod Again
 pub mod Sound
+pub mod NextLaws
 pub mod Whole

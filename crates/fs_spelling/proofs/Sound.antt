@@ -33,7 +33,7 @@ use Rattle.fs_spelling.proofs.Again.{state}
 -- ---- how far a reading came
 
 -- what was read of an element that is open: what stands before it, its tag, and what stands in it so far
-record Within (R : Content → Text → Type 0) (outer : Level) (o : Opened) (c : Content) (text : Text) : Type 0 where
+pub record Within (R : Content → Text → Type 0) (outer : Level) (o : Opened) (c : Content) (text : Text) : Type 0 where
   pub before_it : Content
   pub begun_with : Content
   pub front : Text
@@ -49,7 +49,7 @@ record Within (R : Content → Text → Type 0) (outer : Level) (o : Opened) (c 
   pub whole : text ≡ front ++ (filler ++ ((60 ∷ tag) ++ held))
 
 -- the text up to here is what stands in the open elements, and c is what it says
-abbrev Reached : List Opened → Content → Text → Type 0
+abbrev pub Reached : List Opened → Content → Text → Type 0
 Reached [] c text = Inside level.Top new_content text c
 Reached (o ∷ opened) c text = Within (Reached opened) (level_in opened) o c text
 
@@ -117,12 +117,12 @@ close_reached o opened c text behind close w filler is =
 -- ---- one markup
 
 -- the markup in front was entered
-record Stepped (text before bytes rest : Text) (next : ReadSoFar) : Type 0 where
+pub record Stepped (text before bytes rest : Text) (next : ReadSoFar) : Type 0 where
   pub item : Text
   pub whole : bytes ≡ item ++ rest
   pub reached : Reached next.opened next.content (text ++ (before ++ (60 ∷ item)))
 
-abbrev entry : ReadSoFar → Result ReadSoFar DocFault
+abbrev pub entry : ReadSoFar → Result ReadSoFar DocFault
 entry r = Ok r
 
 same_entry : (x y : ReadSoFar) → entry x ≡ entry y → x ≡ y
@@ -198,7 +198,7 @@ start_stepped at opened c text before bytes rest name body next reached filler t
         grow opened c (element_ended inner d) text (before ++ (60 ∷ tag))
         (λ a t inside. Leaf (level_in opened) inner a c d t before tag name (map pair_of body.attrs) inside filler is begins) reached
 
-mark_stepped : (at : ℕ) (opened : List Opened) (c : Content) (text before bytes rest : Text) (mark : Mark) (next : ReadSoFar) →
+pub mark_stepped : (at : ℕ) (opened : List Opened) (c : Content) (text before bytes rest : Text) (mark : Mark) (next : ReadSoFar) →
     Reached opened c text → IsFiller (level_in opened) before
     → TakesMark mark bytes rest → mark_entered at mark (state opened c) ≡ Ok next → Stepped text before bytes rest next
 mark_stepped at opened c text before bytes rest Comment next reached filler takes e =
@@ -208,16 +208,16 @@ mark_stepped at opened c text before bytes rest (End name) next reached filler t
 mark_stepped at opened c text before bytes rest (Start name body) next reached filler takes e =
     start_stepped at opened c text before bytes rest name body next reached filler takes e
 
-abbrev marked : Mark × Text → Result (Mark × Text) DocFault
+abbrev pub marked : Mark × Text → Result (Mark × Text) DocFault
 marked x = Ok x
 
-abbrev took : Mark × Text → Marks
+abbrev pub took : Mark × Text → Marks
 took x = Ok x
 
-same_marked : (x y : Mark × Text) → marked x ≡ marked y → x ≡ y
+pub same_marked : (x y : Mark × Text) → marked x ≡ marked y → x ≡ y
 same_marked x y e = cc
 
-mark_is_taken : (done outside : Bool) (end at : ℕ) (bytes : Text) (x : Mark × Text) → mark_read done outside end at bytes ≡ Ok x →
+pub mark_is_taken : (done outside : Bool) (end at : ℕ) (bytes : Text) (x : Mark × Text) → mark_read done outside end at bytes ≡ Ok x →
     mark_at end bytes ≡ Ok x
 unfolding mark_read
 mark_is_taken done outside end at bytes x e = by (outside && starts_with nat_eq bytes (codes "/")) (mark_at end bytes) e
@@ -244,10 +244,10 @@ content_read c = Ok c
 same_content : (x y : Content) → content_read x ≡ content_read y → x ≡ y
 same_content x y e = cc
 
-abbrev next_read : Next → Result Next DocFault
+abbrev pub next_read : Next → Result Next DocFault
 next_read n = Ok n
 
-same_next : (x y : Next) → next_read x ≡ next_read y → x ≡ y
+pub same_next : (x y : Next) → next_read x ≡ next_read y → x ≡ y
 same_next x y e = cc
 
 Onward : ℕ → ℕ → Content → Type 0

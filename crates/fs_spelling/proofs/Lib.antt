@@ -16,3 +16,4 @@ pub mod Again
 pub mod Sound
 pub mod NextLaws
 pub mod Whole
+pub mod WrongDocuments

@@ -57,7 +57,7 @@ document_found bytes content e =
 blank_past : (bytes : Text) → AreBlank bytes → past is_blank bytes ≡ []
 blank_past bytes blank = ap (past is_blank) (sym (append-nil bytes)) ∙ past_run is_blank bytes [] blank tt
 
-past_blank : (bytes : Text) → (length (past is_blank bytes) == 0) ≡ true → AreBlank bytes
+pub past_blank : (bytes : Text) → (length (past is_blank bytes) == 0) ≡ true → AreBlank bytes
 past_blank bytes none =
     let P : Text → Type 0 = λ b. AreBlank b in
     let short : past is_blank bytes ≡ [] = is_nothing (past is_blank bytes) none in
@@ -72,10 +72,10 @@ past_blank bytes none =
     is_nothing [] h = refl
     is_nothing (x ∷ b) h = absurd (longer x b h)
 
-blank_tested : (bytes : Text) → AreBlank bytes → (length (past is_blank bytes) == 0) ≡ true
+pub blank_tested : (bytes : Text) → AreBlank bytes → (length (past is_blank bytes) == 0) ≡ true
 blank_tested bytes blank = ap (λ b. length b == 0) (blank_past bytes blank)
 
-not_blank_tested : (bytes : Text) → (AreBlank bytes → ⊥) → (length (past is_blank bytes) == 0) ≡ false
+pub not_blank_tested : (bytes : Text) → (AreBlank bytes → ⊥) → (length (past is_blank bytes) == 0) ≡ false
 not_blank_tested bytes other = by (length (past is_blank bytes) == 0) refl
   where
     by : (t : Bool) → (length (past is_blank bytes) == 0) ≡ t → t ≡ false

@@ -17,3 +17,4 @@ pub mod Sound
 pub mod NextLaws
 pub mod Whole
 pub mod WrongDocuments
+pub mod WholeFaults

@@ -117,7 +117,7 @@ round_goes_on end opened c text bytes rest next reached e =
         subst P (sym (whole ∙ ap (λ n. before ++ (n ∷ more)) begins))
         (mark_goes end opened c text before more rest next reached filler (subst Q begins h))
 
-read_wrong : (fuel end : ℕ) (f : DocFault) (opened : List Opened) (c : Content) (text rest : Text) → Reached opened c text →
+pub read_wrong : (fuel end : ℕ) (f : DocFault) (opened : List Opened) (c : Content) (text rest : Text) → Reached opened c text →
     length rest < fuel
     → read_within fuel end (state opened c) rest ≡ Err f → Wrong end level.Top None new_content (text ++ rest) f
 read_wrong zero end f opened c text rest reached enough e = absurd (omega arith)
@@ -147,7 +147,7 @@ read_wrong (suc fuel) end f opened c text rest reached enough e =
 
 -- ---- what is wrong is read
 
-wrong_read : (end : ℕ) (outer : Level) (around : Option Text) (c : Content) (text : Text) (f : DocFault) → Wrong end outer around c text f →
+pub wrong_read : (end : ℕ) (outer : Level) (around : Option Text) (c : Content) (text : Text) (f : DocFault) → Wrong end outer around c text f →
     (opened : List Opened) → level_in opened ≡ outer → around_in opened ≡ around → (fuel : ℕ) → length text < fuel
     → read_within fuel end (state opened c) text ≡ Err f
 wrong_read end outer around c text f (Here _ _ _ _ d front rest _ inside next) opened here named fuel enough =

@@ -1,5 +1,5 @@
 -- What is read is what is spelt, from the text of a value up to a whole document.
-use Rattle.std.specs.Prelude.{◌≡◌, ℕ, Bool, List, ◌++◌, None, Ok, map}
+use Rattle.std.specs.Prelude.{◌≡◌, ◌⊎◌, ℕ, Bool, List, ◌++◌, None, Ok, Err, map}
 use Rattle.fs_text.specs.Texts.{Text}
 use Rattle.fs_xml.specs.declared.attribute.Ending.{Ending}
 use Rattle.fs_xml.specs.Attributes.{Written, Has, part_at}
@@ -7,10 +7,12 @@ use Rattle.fs_xml.specs.Entities.{value_text}
 use Rattle.fs_xml.specs.Markup.{Mark, Comment, End, mark_at}
 use Rattle.fs_xml.specs.Tags.{BodyText}
 use Rattle.fs_doc.specs.declared.content.Content.{Content}
+use Rattle.fs_doc.specs.declared.fault.DocFault.{DocFault}
 use Rattle.fs_doc.specs.declared.element.Level.{Level}
 use Rattle.fs_doc.specs.Limits.{IsWithin}
 use Rattle.fs_doc.specs.Reading.{Configuration, config_of, element_read}
 use Rattle.fs_spelling.specs.Documents.{Begins, Spells}
+use Rattle.fs_spelling.specs.Faults.{HasFault}
 use Rattle.fs_spelling.specs.Readings.{pair_of, ReadsAttribute, TakesAttribute, ReadsTag, TakesMark}
 use Rattle.fs_spelling.specs.Tags.{Pair, IsAttribute, IsComment, IsEndTag, IsTag}
 use Rattle.fs_spelling.specs.Values.{SpellsValue}
@@ -91,3 +93,24 @@ DocumentSpellsOne = (bytes : Text) (some other : Configuration) → Spells bytes
 -- a configuration that is spelt keeps the limits
 abbrev pub SpeltIsWithin : Type 0
 SpeltIsWithin = (bytes : Text) (c : Configuration) → Spells bytes c → IsWithin c
+
+-- ---- faults
+
+-- the fault that is told of bytes is one that they have
+abbrev pub FaultToldIsHad : Type 0
+FaultToldIsHad = (bytes : Text) (f : DocFault) → config_of bytes ≡ Err f → HasFault bytes f
+
+-- a fault that bytes have is told of them
+abbrev pub FaultHadIsTold : Type 0
+FaultHadIsTold = (bytes : Text) (f : DocFault) → HasFault bytes f → config_of bytes ≡ Err f
+
+-- bytes have at most one fault
+abbrev pub BytesHaveOneFault : Type 0
+BytesHaveOneFault = (bytes : Text) (some other : DocFault) → HasFault bytes some → HasFault bytes other → some ≡ other
+
+-- bytes spell a configuration or have a fault, and not both
+abbrev pub SpeltOrFaulty : Type 0
+SpeltOrFaulty =
+    (bytes : Text) →
+    (((c : Configuration) × Spells bytes c) ⊎ ((f : DocFault) × HasFault bytes f))
+    × ((c : Configuration) (f : DocFault) → Spells bytes c → HasFault bytes f → ⊥)

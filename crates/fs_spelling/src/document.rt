@@ -21,3 +21,12 @@ pub fn one_document()
 pub fn within_limits()
     ensures { laws.SpeltIsWithin }
 {}
+
+/// The fault that is told of bytes is one that they have, a fault that they have is told of them, and they have one at
+/// most. Bytes spell a configuration or have a fault, and never both.
+pub fn one_fault()
+    ensures had { laws.FaultToldIsHad }
+    ensures told { laws.FaultHadIsTold }
+    ensures one { laws.BytesHaveOneFault }
+    ensures either { laws.SpeltOrFaulty }
+{}

@@ -1,30 +1,27 @@
 -- Markup that is cut short or bad is read as that, and what is read so is cut short or bad.
-use Rattle.std.proofs.Common.{◌≡◌, ◌≢◌, ℕ, zero, suc, ◌+◌, ◌-◌, ◌<◌, Bool, true, false, cond, ◌==◌, nat_eq, List, [], ◌∷◌, ◌++◌, length}
+use Rattle.std.proofs.Common.{◌≡◌, ◌≢◌, ℕ, ◌+◌, Bool, true, false, cond, ◌==◌, nat_eq, List, [], ◌∷◌, ◌++◌, length}
 use Rattle.std.proofs.Common.{Option, None, Some, Result, Ok, Err, codes, refl, sym, ap, ◌∙◌, subst, append_assoc, append-nil, arith, drop}
-use Rattle.std.specs.List.{starts_with, take_while, list_all}
+use Rattle.std.specs.List.{starts_with, take_while}
 use Rattle.std.proofs.lemmas.Bool.{eqb-true}
-use Rattle.std.proofs.lemmas.Bool.Decides.{nat_tests}
 use Rattle.fs_text.specs.Texts.{Text}
 use Rattle.fs_xml.specs.declared.stop.TagStop.{TagStop}
 use Rattle.fs_xml.specs.declared.stop.TagStop.TheVariants.{Cut, Bad}
 use Rattle.fs_xml.specs.declared.attribute.Ending.{Ending}
 use Rattle.fs_xml.specs.declared.attribute.Ending.TheVariants.{Opens, Closes}
 use Rattle.fs_xml.specs.Results.{◌>>=◌}
-use Rattle.fs_xml.specs.Bytes.{is_blank, is_quote, is_mark, is_name_byte, begins_name, past, name_of, offset}
+use Rattle.fs_xml.specs.Bytes.{is_blank, is_quote, is_mark, is_name_byte, begins_name, past, name_of}
 use Rattle.fs_xml.specs.Attributes.{Written, part_on, part_at}
 use Rattle.fs_xml.specs.Tags.{BodyText, Bodies, body_step, body_at}
 use Rattle.fs_xml.specs.Markup.{Mark, Comment, End, Start, Marks, comment_end, second_dash_at, comment_at, closed_at, end_at, start_at}
 use Rattle.fs_xml.specs.Markup.{mark_at}
 use Rattle.fs_xml.proofs.ByteLemmas.{run_past}
-use Rattle.fs_spelling.specs.Tags.{AreBlank, Stops, IsName, IsEndTag, IsComment, AreAttributes, NoMore, ending_text}
-use Rattle.fs_spelling.specs.Readings.{Takes}
-use Rattle.fs_spelling.specs.Marks.{IsTail, Well, Ill, AreWritten, IsMark, AComment, AnEnd, ATag, HasMark, IsCut, IsBad, IsStart}
-use Rattle.fs_spelling.proofs.Runs.{past_run, the_run, run_passes, rest_stops, gap_stops, name_passes, name_byte, first_byte, no_mark}
+use Rattle.fs_spelling.specs.Tags.{AreBlank, Stops, IsName, NoMore, ending_text}
+use Rattle.fs_spelling.specs.Marks.{IsTail, Well, Ill, AreWritten, IsMark, AComment, AnEnd, ATag, HasMark, IsStart}
+use Rattle.fs_spelling.proofs.Runs.{past_run, the_run, run_passes, rest_stops, name_passes}
 use Rattle.fs_spelling.proofs.AttributeLaws.{name_is}
-use Rattle.fs_spelling.proofs.MarkLaws.{TakesBodyOf, comment_taken, greater_stops, begun_read, end_seam, start_read, tail_stands}
-use Rattle.fs_spelling.proofs.MarkLaws.{dashes_taken, spelt_comment, spelt_end}
-use Rattle.fs_spelling.proofs.PartLaws.{IsFull, GoesOn}
-use Rattle.fs_spelling.proofs.StartLaws.{all_written, all_attributes, broken_place, body_read, TakesAll, BodyIs, body_is}
+use Rattle.fs_spelling.proofs.MarkLaws.{comment_taken, greater_stops, begun_read, start_read, tail_stands}
+use Rattle.fs_spelling.proofs.MarkLaws.{spelt_comment, spelt_end}
+use Rattle.fs_spelling.proofs.StartLaws.{all_written, broken_place, body_read, BodyIs, body_is}
 
 -- ---- a tag is read
 

@@ -235,12 +235,12 @@ same_begun : (x y : Level × Content) → offset_read x ≡ offset_read y → x 
 same_begun x y e = cc
 
 -- the pairs are all there, and none is malformed
-record IsComplete (e : Tagged) (malformed : Option ℕ) (pairs texts : Pairs) : Type 0 where
+pub record IsComplete (e : Tagged) (malformed : Option ℕ) (pairs texts : Pairs) : Type 0 where
   pub none : malformed ≡ None
   pub needed : has_needed e.kind pairs ≡ true
   pub same : pairs ≡ texts
 
-completed : (e : Tagged) (malformed : Option ℕ) (pairs texts : Pairs) → complete e malformed pairs ≡ Ok texts →
+pub completed : (e : Tagged) (malformed : Option ℕ) (pairs texts : Pairs) → complete e malformed pairs ≡ Ok texts →
     IsComplete e malformed pairs texts
 completed e (Some at) pairs texts h = absurd (cc)
 completed e None pairs texts h = by (has_needed e.kind pairs) refl h

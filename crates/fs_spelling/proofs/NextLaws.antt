@@ -1,6 +1,6 @@
 -- What stands next and is wrong is read as its fault, and what is read so is wrong.
-use Rattle.std.proofs.Common.{◌≡◌, ◌≢◌, ◌⊎◌, inl, inr, ℕ, Bool, true, false, cond, ◌&&◌, ◌==◌, nat_eq, List, [], ◌∷◌, ◌++◌, map, Option, None, Some}
-use Rattle.std.proofs.Common.{Result, Ok, Err, codes, refl, sym, ap, ◌∙◌, subst, append_assoc, append-nil}
+use Rattle.std.proofs.Common.{◌≡◌, ◌≢◌, ◌⊎◌, inl, inr, ℕ, Bool, true, false, cond, ◌==◌, nat_eq, List, [], ◌∷◌, ◌++◌, map, Option, None, Some}
+use Rattle.std.proofs.Common.{Result, Ok, Err, codes, refl, sym, ap, ◌∙◌, subst, append-nil}
 use Rattle.std.specs.List.{starts_with, take_while}
 use Rattle.std.specs.Str.{bytes_eq}
 use Rattle.std.proofs.lemmas.Slice.Eq.{bytes_eq-Decides}
@@ -9,10 +9,8 @@ use Rattle.fs_xml.specs.Results.{◌>>=◌}
 use Rattle.fs_xml.specs.Bytes.{is_blank, past, offset}
 use Rattle.fs_xml.specs.Tags.{BodyText}
 use Rattle.fs_xml.specs.Markup.{Mark, Comment, End, Start, Marks, mark_at}
-use Rattle.fs_xml.specs.declared.stop.TagStop.{TagStop}
 use Rattle.fs_xml.specs.declared.stop.TagStop.TheVariants.{Cut as WasCut, Bad as WasBad}
 use Rattle.fs_xml.proofs.ByteLemmas.{run_past}
-use Rattle.fs_doc.specs.declared.fault.DocKind.{DocKind}
 use Rattle.fs_doc.specs.declared.fault.DocKind.TheVariants as kinds
 use Rattle.fs_doc.specs.declared.fault.DocFault.{DocFault}
 use Rattle.fs_doc.specs.declared.element.Level.{Level}
@@ -23,16 +21,16 @@ use Rattle.fs_doc.specs.Contents.{element_ended}
 use Rattle.fs_doc.specs.Reading.{Opened, ReadSoFar, level_in, is_outside, text_kind, blank_text, text_at, stop_fault, mark_or, mark_read}
 use Rattle.fs_doc.specs.Reading.{element_read, with_element, start_entered, end_entered, is_empty_level, mark_entered, Next, Over, On, at_mark}
 use Rattle.fs_doc.specs.Reading.{round}
-use Rattle.fs_spelling.specs.Tags.{AreBlank, Stops, IsName, IsEndTag, IsComment}
-use Rattle.fs_spelling.specs.Readings.{pair_of, Takes}
+use Rattle.fs_spelling.specs.Tags.{AreBlank, Stops}
+use Rattle.fs_spelling.specs.Readings.{pair_of}
 use Rattle.fs_spelling.specs.Marks.{IsMark, AComment, AnEnd, ATag, HasMark, IsCut, IsBad, IsStart}
 use Rattle.fs_spelling.specs.Documents.{IsFiller}
 use Rattle.fs_spelling.specs.Faults.{WrongElement, WrongMark, Cut, CutBehind, NoMark, RemarkWithin, OtherEnd, OfElement}
 use Rattle.fs_spelling.specs.Faults.{WrongNext, Stray, Ends, OfMark}
-use Rattle.fs_spelling.proofs.Binds.{bind_ok, bind_err}
+use Rattle.fs_spelling.proofs.Binds.{bind_err, stopped}
 use Rattle.fs_spelling.proofs.Runs.{past_run, run_passes, rest_stops, name_byte, first_byte, no_mark}
 use Rattle.fs_spelling.proofs.MarkLaws.{taken_mark}
-use Rattle.fs_spelling.proofs.CutLaws.{start_is_read, front_is_read, TakesStart, MarkRest, mark_rest}
+use Rattle.fs_spelling.proofs.CutLaws.{start_is_read, front_is_read, MarkRest, mark_rest}
 use Rattle.fs_spelling.proofs.StartLaws.{all_attributes}
 use Rattle.fs_spelling.proofs.TextLaws.{BeginsMark, text_read, text_taken}
 use Rattle.fs_spelling.proofs.WrongElements.{element_wrong, element_stops}
@@ -47,11 +45,8 @@ around_in (o ∷ opened) = Some o.name
 -- ---- cut short or bad
 
 -- an end tag stands in front only where an element is open
-abbrev May : Option Text → Text → Type 0
+abbrev pub May : Option Text → Text → Type 0
 May around text = around ≡ None → starts_with nat_eq text (codes "/") ≡ false
-
-starts_slash : Text → Bool
-starts_slash text = starts_with nat_eq text (codes "/")
 
 -- no markup begins with `/` where none is open
 never_slash : (text : Text) → starts_with nat_eq text (codes "/") ≡ true → HasMark None text → ⊥
@@ -104,9 +99,6 @@ front_found end around text may (Start name body) rest read found =
           is.apart (all_attributes end is.attributes (is.tail ++ rest) body.attrs is.are) is.ends);
     }
 
-was_read : Mark × Text → Marks
-was_read x = Ok x
-
 cut_is : (end : ℕ) (around : Option Text) (text : Text) → mark_at end text ≡ Err WasCut → MarkRest end around text (Err WasCut) →
     IsCut around text
 cut_is end around text read goes = record {
@@ -122,7 +114,17 @@ bad_is end around text stays more has =
     let found = front_is_read 0 around (text ++ more) has in
     let both : Err WasBad ≡ Ok found.0 = sym (stays 0 more) ∙ found.1 in cc
 
-cut_stops : (end : ℕ) (around : Option Text) (text : Text) → May around text → IsCut around text → mark_at end text ≡ Err WasCut
+pub cut_found : (end : ℕ) (name text : Text) → mark_at end text ≡ Err WasCut → IsCut (Some name) text
+cut_found end name text read =
+    let P : Marks → Type 0 = λ r. MarkRest end (Some name) text r in
+    cut_is end (Some name) text read (subst P read (mark_rest end (Some name) text (λ none. absurd (cc))))
+
+pub bad_found : (end : ℕ) (name text : Text) → mark_at end text ≡ Err WasBad → IsBad (Some name) text
+bad_found end name text read =
+    let P : Marks → Type 0 = λ r. MarkRest end (Some name) text r in
+    bad_is end (Some name) text (subst P read (mark_rest end (Some name) text (λ none. absurd (cc))))
+
+pub cut_stops : (end : ℕ) (around : Option Text) (text : Text) → May around text → IsCut around text → mark_at end text ≡ Err WasCut
 cut_stops end around text may is = by (mark_at end text) refl (mark_rest end around text may)
   where
     by : (r : Marks) → mark_at end text ≡ r → MarkRest end around text r → r ≡ Err WasCut
@@ -130,7 +132,7 @@ cut_stops end around text may is = by (mark_at end text) refl (mark_rest end aro
     by (Err WasCut) read found = refl
     by (Err WasBad) read found = absurd (bad_is end around text found is.more is.goes_on)
 
-bad_stops : (end : ℕ) (around : Option Text) (text : Text) → May around text → IsBad around text → mark_at end text ≡ Err WasBad
+pub bad_stops : (end : ℕ) (around : Option Text) (text : Text) → May around text → IsBad around text → mark_at end text ≡ Err WasBad
 bad_stops end around text may is = by (mark_at end text) refl (mark_rest end around text may)
   where
     P : Text → Type 0
@@ -170,9 +172,6 @@ either_way [] text = by (starts_with nat_eq text (codes "/")) refl
     by true is = inr (refl, is)
     by false is = inl (λ none. is)
 either_way (o ∷ opened) text = inl (λ none. absurd (cc))
-
-abbrev stopped : {X : Type 0} → DocFault → Result X DocFault
-stopped f = Err f
 
 stop_wrong : (end at : ℕ) (outer : Level) (around : Option Text) (c : Content) (text : Text) (f : DocFault) (r : Marks) →
     mark_at end text ≡ r → MarkRest end around text r → mark_or c.done end at r ≡ stopped f → WrongMark end at outer around c text f

@@ -1,8 +1,8 @@
 -- A malformed attribute, a tag that is cut short, and one that stays bad: one part of it.
-use Rattle.std.proofs.Common.{◌≡◌, ◌≢◌, ◌⊎◌, inl, inr, ℕ, ◌-◌, Bool, true, false, cond, ◌==◌, List, [], ◌∷◌, ◌++◌, length, Option, None}
-use Rattle.std.proofs.Common.{Some, Result, Ok, Err, refl, sym, ap, ◌∙◌, subst, append_assoc, append-nil, arith, codes}
+use Rattle.std.proofs.Common.{◌≡◌, ◌≢◌, ◌⊎◌, inl, inr, ℕ, Bool, true, false, cond, ◌==◌, List, [], ◌∷◌, ◌++◌, length, Option, None}
+use Rattle.std.proofs.Common.{Some, Result, Ok, Err, refl, sym, ap, ◌∙◌, subst, append_assoc, append-nil, arith}
 use Rattle.std.specs.List.{list_any, list_all, take_while, before_first, after_first}
-use Rattle.std.proofs.lemmas.List.{length-append, append_cancel_right}
+use Rattle.std.proofs.lemmas.List.{length-append}
 use Rattle.std.proofs.lemmas.Bool.{eqb-true}
 use Rattle.std.proofs.lemmas.Bool.Decides.{nat_tests}
 use Rattle.fs_text.specs.Words.{is_byte, halves_of}
@@ -11,16 +11,16 @@ use Rattle.fs_xml.specs.declared.stop.TagStop.TheVariants.{Cut, Bad}
 use Rattle.fs_xml.specs.declared.attribute.Ending.{Ending}
 use Rattle.fs_xml.specs.declared.attribute.Ending.TheVariants.{Opens, Closes}
 use Rattle.fs_xml.specs.Results.{◌>>=◌}
-use Rattle.fs_xml.specs.Bytes.{is_blank, is_quote, is_mark, is_name_byte, begins_name, past, name_of, offset}
-use Rattle.fs_xml.specs.Attributes.{Written, TagPart, Has, Ends, Broken, TagParts, tag_end, broken_at, valued_on, valued_at, quoted_at}
+use Rattle.fs_xml.specs.Bytes.{is_blank, is_quote, is_name_byte, begins_name, past, name_of, offset}
+use Rattle.fs_xml.specs.Attributes.{Has, Ends, Broken, TagParts, tag_end, broken_at, valued_on, valued_at, quoted_at}
 use Rattle.fs_xml.specs.Attributes.{equals_at, named_at, slash_at, part_on, part_at}
 use Rattle.fs_xml.proofs.ByteLemmas.{run_past}
-use Rattle.fs_spelling.specs.Tags.{Pair, AreBlank, IsName, IsAttribute, AreAttributes, NoMore, OneMore, ending_text, Stops}
+use Rattle.fs_spelling.specs.Tags.{Pair, AreBlank, IsName, AreAttributes, NoMore, OneMore, ending_text, Stops}
 use Rattle.fs_spelling.specs.Marks.{IsLoose, ByteLoose, IsMalformed, Glued, NoEquals, NoQuote, IsTail, Well, Ill}
 use Rattle.fs_spelling.proofs.Runs.{past_run, the_run, run_passes, rest_stops, name_byte, first_byte, no_mark, gap_stops, name_passes}
 use Rattle.fs_spelling.proofs.Runs.{name_stops, blank_stops, and_true}
-use Rattle.fs_spelling.proofs.LooseLaws.{IsFree, name_free, blank_free, loose_run, passed_run, loose_read, TakesLoose, EndIs, end_is}
-use Rattle.fs_spelling.proofs.AttributeLaws.{part_behind, name_read, named_read, equals_stops, name_is, passed}
+use Rattle.fs_spelling.proofs.LooseLaws.{name_free, blank_free, loose_run, passed_run, EndIs, end_is}
+use Rattle.fs_spelling.proofs.AttributeLaws.{part_behind, name_read, equals_stops, name_is, passed}
 
 -- ---- a malformed attribute is read as one
 
@@ -377,7 +377,6 @@ on_rest end text gap (b ∷ bytes) g whole blank stops glued apart = by (b == 62
     by false true u h one two three four = slash bytes refl (eqb-true b 47 two)
     by false false true true one two three four =
         let none = glued four in
-        let P : List ℕ → Type 0 = λ t. IsMalformed t (b ∷ bytes) in
         broken_rest end (offset end (b ∷ bytes)) text [] [] b bytes (whole ∙ ap (λ t. t ++ (b ∷ bytes)) none) refl (λ l loose. loose)
         (λ m. Glued b m three) (λ m. refl) refl
     by false false true false one two three four =

@@ -1,23 +1,23 @@
 -- A tag with the offsets of its attributes, also with a malformed one; a tag that is cut short, and one that stays bad.
-use Rattle.std.proofs.Common.{◌≡◌, ◌≢◌, ℕ, zero, suc, ◌+◌, ◌-◌, ◌<◌, Bool, true, false, List, [], ◌∷◌, ◌++◌, length, map, Option, None, Some}
+use Rattle.std.proofs.Common.{◌≡◌, ℕ, zero, suc, ◌+◌, ◌<◌, List, [], ◌∷◌, ◌++◌, length, map, Option, None, Some}
 use Rattle.std.proofs.Common.{Result, Ok, Err, refl, sym, ap, ◌∙◌, subst, append_assoc, append-nil, arith}
 use Rattle.std.specs.Option.{option_map}
 use Rattle.std.proofs.lemmas.List.{length-append}
 use Rattle.fs_xml.specs.declared.stop.TagStop.{TagStop}
 use Rattle.fs_xml.specs.declared.stop.TagStop.TheVariants.{Cut, Bad}
 use Rattle.fs_xml.specs.declared.attribute.Ending.{Ending}
-use Rattle.fs_xml.specs.declared.attribute.Ending.TheVariants.{Opens, Closes}
+use Rattle.fs_xml.specs.declared.attribute.Ending.TheVariants.{Opens}
 use Rattle.fs_xml.specs.Results.{◌>>=◌}
-use Rattle.fs_xml.specs.Bytes.{is_blank, is_name_byte, offset}
+use Rattle.fs_xml.specs.Bytes.{offset}
 use Rattle.fs_xml.specs.Attributes.{Written, TagPart, Has, Ends, Broken, TagParts, tag_end, broken_at, part_at}
 use Rattle.fs_xml.specs.Tags.{BodyText, Step, Done, step_of, Bodies, go_on, body_step, body_within, body_at}
-use Rattle.fs_spelling.specs.Tags.{Pair, AreBlank, Stops, IsName, IsAttribute, AreAttributes, NoMore, OneMore, ending_text}
-use Rattle.fs_spelling.specs.Readings.{pair_of, ReadsAttribute}
+use Rattle.fs_spelling.specs.Tags.{Pair, AreBlank, IsAttribute, AreAttributes, NoMore, OneMore, ending_text}
+use Rattle.fs_spelling.specs.Readings.{pair_of}
 use Rattle.fs_spelling.specs.Marks.{IsLoose, IsMalformed, IsTail, Well, Ill, IsWritten, AreWritten, NoneWritten, OneWritten}
 use Rattle.fs_spelling.proofs.LooseLaws.{loose_read}
-use Rattle.fs_spelling.proofs.AttributeLaws.{Attribute, seam, written_as_it_is, spelt_attribute, written_read, TakesWritten, read_written}
+use Rattle.fs_spelling.proofs.AttributeLaws.{seam, written_as_it_is, spelt_attribute, written_read, read_written}
 use Rattle.fs_spelling.proofs.BodyLaws.{end_read, end_taken, attribute_long}
-use Rattle.fs_spelling.proofs.PartLaws.{malformed_read, IsFull, GoesOn, TakesBroken, PartRest, part_rest}
+use Rattle.fs_spelling.proofs.PartLaws.{malformed_read, GoesOn, PartRest, part_rest}
 
 -- ---- with offsets and without
 

@@ -84,13 +84,13 @@ not_blank_tested bytes other = by (length (past is_blank bytes) == 0) refl
 
 -- ---- all bytes
 
-abbrev contents : Content → Result Content DocFault
+abbrev pub contents : Content → Result Content DocFault
 contents c = Ok c
 
-abbrev Configured : Result Content DocFault → Result Configuration DocFault
+abbrev pub Configured : Result Content DocFault → Result Configuration DocFault
 Configured r = r >>= λ c. Ok (configured c)
 
-small_tested : (bytes : Text) → length bytes ≤ 1048576 → nat_lt 1048576 (length bytes) ≡ false
+pub small_tested : (bytes : Text) → length bytes ≤ 1048576 → nat_lt 1048576 (length bytes) ≡ false
 small_tested bytes small = grind (arith, nat_tests)
 
 pub spelt_is_read : (bytes : Text) (c : Configuration) → Spells bytes c → config_of bytes ≡ Ok c
@@ -115,7 +115,7 @@ told c = Ok c
 same_told : (x y : Configuration) → told x ≡ told y → x ≡ y
 same_told x y e = cc
 
-large_tested : (bytes : Text) → nat_lt 1048576 (length bytes) ≡ false → length bytes ≤ 1048576
+pub large_tested : (bytes : Text) → nat_lt 1048576 (length bytes) ≡ false → length bytes ≤ 1048576
 large_tested bytes test = grind (arith, nat_tests)
 
 same_contents : (x y : Content) → contents x ≡ contents y → x ≡ y

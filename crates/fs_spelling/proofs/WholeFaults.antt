@@ -18,15 +18,12 @@ use Rattle.fs_doc.specs.Reading.{read_within, document_of, declaration_end, past
 use Rattle.fs_doc.specs.Reading.{config_of}
 use Rattle.fs_spelling.specs.Tags.{AreBlank}
 use Rattle.fs_spelling.specs.Documents.{Bare}
-use Rattle.fs_spelling.specs.Faults.{Wrong, IsUndeclared, HasFault, Large, Undeclared, Within}
-use Rattle.fs_spelling.proofs.Binds.{bind_err}
+use Rattle.fs_spelling.specs.Faults.{IsUndeclared, HasFault, Large, Undeclared, Within}
+use Rattle.fs_spelling.proofs.Binds.{bind_err, stopped}
 use Rattle.fs_spelling.proofs.Runs.{and_true}
 use Rattle.fs_spelling.proofs.Again.{state}
-use Rattle.fs_spelling.proofs.Whole.{blank_tested, not_blank_tested, past_blank}
+use Rattle.fs_spelling.proofs.Whole.{blank_tested, not_blank_tested, small_tested, large_tested, contents, Configured}
 use Rattle.fs_spelling.proofs.WrongDocuments.{read_wrong, wrong_read}
-
-abbrev stopped : {X : Type 0} → DocFault → Result X DocFault
-stopped f = Err f
 
 -- ---- the declaration
 
@@ -137,12 +134,6 @@ undeclared_some bytes (inr (text, whole, endless)) blank =
 
 -- ---- all bytes
 
-abbrev contents : Content → Result Content DocFault
-contents c = Ok c
-
-abbrev Configured : Result Content DocFault → Result Configuration DocFault
-Configured r = r >>= λ c. Ok (configured c)
-
 document_wrong : (bytes : Text) (f : DocFault) → length bytes ≤ 1048576 → (AreBlank bytes → ⊥) → content_of bytes ≡ Err f → HasFault bytes f
 unfolding content_of document_of
 document_wrong bytes f small some e =
@@ -165,14 +156,8 @@ document_wrong bytes f small some e =
 large : (bytes : Text) → nat_lt 1048576 (length bytes) ≡ true → 1048576 < length bytes
 large bytes test = grind (arith, nat_tests)
 
-small_tested : (bytes : Text) → length bytes ≤ 1048576 → nat_lt 1048576 (length bytes) ≡ false
-small_tested bytes small = grind (arith, nat_tests)
-
-tested_small : (bytes : Text) → nat_lt 1048576 (length bytes) ≡ false → length bytes ≤ 1048576
-tested_small bytes test = grind (arith, nat_tests)
-
-large_tested : (bytes : Text) → 1048576 < length bytes → nat_lt 1048576 (length bytes) ≡ true
-large_tested bytes long = grind (arith, nat_tests)
+long_tested : (bytes : Text) → 1048576 < length bytes → nat_lt 1048576 (length bytes) ≡ true
+long_tested bytes long = grind (arith, nat_tests)
 
 pub fault_is_had : (bytes : Text) (f : DocFault) → config_of bytes ≡ Err f → HasFault bytes f
 unfolding config_of
@@ -199,7 +184,7 @@ fault_is_had bytes f e = by (nat_lt 1048576 (length bytes)) refl e
         go_on : (cond (length (past is_blank bytes) == 0) (contents new_content) (content_of bytes) ≡ Err f)
             ⊎ ((c : Content) × (cond (length (past is_blank bytes) == 0) (contents new_content) (content_of bytes) ≡ Ok c)
             × (Ok (configured c) ≡ stopped {X = Configuration} f)) → HasFault bytes f
-        go_on (inl stops) = judged (tested_small bytes is) (length (past is_blank bytes) == 0) refl stops
+        go_on (inl stops) = judged (large_tested bytes is) (length (past is_blank bytes) == 0) refl stops
         go_on (inr (c, read, k)) = absurd (cc)
 
 small_read : (bytes : Text) (f : DocFault) → length bytes ≤ 1048576 → (AreBlank bytes → ⊥) → content_of bytes ≡ Err f →
@@ -215,7 +200,7 @@ pub had_is_told : (bytes : Text) (f : DocFault) → HasFault bytes f → config_
 unfolding config_of content_of document_of
 had_is_told bytes f (Large _ long) =
     ap (λ t. cond t (fault 1048576 kinds.TooLarge)
-    (Configured (cond (length (past is_blank bytes) == 0) (contents new_content) (content_of bytes)))) (large_tested bytes long)
+    (Configured (cond (length (past is_blank bytes) == 0) (contents new_content) (content_of bytes)))) (long_tested bytes long)
 had_is_told bytes f (Undeclared _ small is) =
     small_read bytes f small (undeclared_some bytes is)
     (ap (λ (r : Result Text DocFault). r >>= λ t. read_within (length t + 1) (length bytes) (state [] new_content) t)

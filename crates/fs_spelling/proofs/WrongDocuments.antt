@@ -1,41 +1,30 @@
 -- A document's first fault is one that it has, and one that it has is its first.
-use Rattle.std.proofs.Common.{◌≡◌, ◌≢◌, ◌⊎◌, inl, inr, ℕ, zero, suc, ◌+◌, ◌-◌, ◌<◌, ◌≤◌, Bool, true, false, cond, ◌==◌, nat_eq, nat_lt}
-use Rattle.std.proofs.Common.{List, [], ◌∷◌, ◌++◌, length, drop, Option, None, Some, Result, Ok, Err, codes, refl, sym, ap, ◌∙◌, subst}
-use Rattle.std.proofs.Common.{append_assoc, append-nil, arith}
-use Rattle.std.specs.List.{starts_with, list_all}
+use Rattle.std.proofs.Common.{◌≡◌, ◌⊎◌, inl, inr, ℕ, zero, suc, ◌-◌, ◌<◌, Bool, true, false, cond}
+use Rattle.std.proofs.Common.{List, [], ◌∷◌, ◌++◌, length, Option, None, Some, Result, Ok, Err, refl, sym, ap, ◌∙◌, subst}
+use Rattle.std.proofs.Common.{append_assoc, arith}
 use Rattle.std.proofs.lemmas.List.{length-append}
-use Rattle.std.proofs.lemmas.Bool.Decides.{nat_tests, Decides-eqb}
-use Rattle.std.proofs.lemmas.Slice.Eq.{starts_is}
 use Rattle.fs_text.specs.Texts.{Text}
 use Rattle.fs_xml.specs.Results.{◌>>=◌}
-use Rattle.fs_xml.specs.Bytes.{is_blank, past, offset}
-use Rattle.fs_xml.specs.Markup.{Mark}
+use Rattle.fs_xml.specs.Bytes.{offset}
 use Rattle.fs_doc.specs.declared.fault.DocKind.TheVariants as kinds
 use Rattle.fs_doc.specs.declared.fault.DocFault.{DocFault}
 use Rattle.fs_doc.specs.declared.element.Level.{Level}
 use Rattle.fs_doc.specs.declared.element.Level.TheVariants as level
 use Rattle.fs_doc.specs.declared.content.Content.{Content}
-use Rattle.fs_doc.specs.Faults.{fault, fault_at}
+use Rattle.fs_doc.specs.Faults.{fault}
 use Rattle.fs_doc.specs.Contents.{new_content}
 use Rattle.fs_doc.specs.Reading.{Opened, ReadSoFar, level_in, is_outside, text_at, mark_read, mark_entered, Next, Over, On, at_mark, round}
-use Rattle.fs_doc.specs.Reading.{with_round, read_within, document_of, declaration_end, past_declaration, content_of, Configuration}
-use Rattle.fs_doc.specs.Reading.{configured, config_of}
-use Rattle.fs_spelling.specs.Tags.{AreBlank}
-use Rattle.fs_spelling.specs.Documents.{IsFiller, Inside, Bare}
-use Rattle.fs_spelling.specs.Faults.{WrongNext, Wrong, Here, Deeper, IsUndeclared, HasFault, Large, Undeclared, Within as InDocument}
-use Rattle.fs_spelling.proofs.Binds.{bind_ok, bind_err}
-use Rattle.fs_spelling.proofs.Runs.{and_true}
+use Rattle.fs_doc.specs.Reading.{with_round, read_within}
+use Rattle.fs_spelling.specs.Documents.{IsFiller, Inside}
+use Rattle.fs_spelling.specs.Faults.{Wrong, Here, Deeper}
+use Rattle.fs_spelling.proofs.Binds.{bind_ok, bind_err, stopped}
 use Rattle.fs_spelling.proofs.MarkLaws.{taken_mark}
 use Rattle.fs_spelling.proofs.TextLaws.{BeginsMark, text_taken}
 use Rattle.fs_spelling.proofs.Again.{state, one_round, open_round, goes}
-use Rattle.fs_spelling.proofs.Sound.{Within, Reached, mark_stepped, mark_is_taken, next_read, same_next}
+use Rattle.fs_spelling.proofs.Sound.{Reached, mark_stepped, mark_is_taken, next_read, same_next}
 use Rattle.fs_spelling.proofs.NextLaws.{around_in, next_wrong, next_stops}
-use Rattle.fs_spelling.proofs.Whole.{blank_tested, not_blank_tested, past_blank}
 
 -- ---- what is read is wrong
-
-abbrev stopped : {X : Type 0} → DocFault → Result X DocFault
-stopped f = Err f
 
 -- what is wrong in the innermost element is wrong in the document
 climb : (end : ℕ) (f : DocFault) (opened : List Opened) (c : Content) (text rest : Text) → Reached opened c text

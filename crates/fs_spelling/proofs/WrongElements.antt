@@ -4,7 +4,6 @@ use Rattle.std.proofs.Common.{refl, sym, ap, ◌∙◌, subst}
 use Rattle.fs_text.specs.Texts.{Text}
 use Rattle.fs_vars.specs.Pairs.{Pairs}
 use Rattle.fs_xml.specs.Results.{◌>>=◌}
-use Rattle.fs_xml.specs.Bytes.{offset}
 use Rattle.fs_xml.specs.Attributes.{Written}
 use Rattle.fs_xml.specs.Tags.{BodyText}
 use Rattle.fs_xml.specs.Entities.{Values, value_text}
@@ -27,15 +26,12 @@ use Rattle.fs_spelling.specs.Readings.{pair_of}
 use Rattle.fs_spelling.specs.Documents.{tag_of, text_with_globals, Say, SayNoMore, SayOneMore}
 use Rattle.fs_spelling.specs.Faults.{WrongAttribute, Doubled, Timed, RawMark, NoEntity, Refused}
 use Rattle.fs_spelling.specs.Faults.{WrongElement, Misplaced, InAttribute, Malformed, Missing, Unbegun}
-use Rattle.fs_spelling.proofs.Binds.{bind_ok, bind_err}
+use Rattle.fs_spelling.proofs.Binds.{bind_ok, bind_err, stopped}
 use Rattle.fs_spelling.proofs.WrongValues.{ValueIs, value_is, raw_stops, entity_stops}
-use Rattle.fs_spelling.proofs.ElementLaws.{onward, bare, value_bare, text_said, IsSaid, text_is_said, attribute_said, attribute_is_said}
-use Rattle.fs_spelling.proofs.ElementLaws.{all_said, all_are_said}
+use Rattle.fs_spelling.proofs.ElementLaws.{onward, bare, value_bare, text_said, text_is_said, attribute_said, attribute_is_said}
+use Rattle.fs_spelling.proofs.ElementLaws.{all_said, all_are_said, completed}
 
 -- ---- what is read is wrong
-
-abbrev stopped : {X : Type 0} → DocFault → Result X DocFault
-stopped f = Err f
 
 -- a reading that stops at a place
 place_read : {X : Type 0} (at : ℕ) (r : Result X DocKind) (f : DocFault) → or_at at r ≡ Err f →
@@ -168,27 +164,6 @@ incomplete at outer c name body k texts f None known say is h = by (has_needed k
         let same : fault_at at kinds.BadAttribute ≡ f = cc in
         let P : DocFault → Type 0 = λ g. WrongElement at outer c name body g in
         subst P same (Missing at outer c name body k texts known say is needed)
-
-record IsComplete (e : Tagged) (malformed : Option ℕ) (pairs texts : Pairs) : Type 0 where
-  pub none : malformed ≡ None
-  pub needed : has_needed e.kind pairs ≡ true
-  pub same : pairs ≡ texts
-
-abbrev texts_read : Pairs → Result Pairs DocFault
-texts_read x = Ok x
-
-same_texts : (x y : Pairs) → texts_read x ≡ texts_read y → x ≡ y
-same_texts x y e = cc
-
-completed : (e : Tagged) (malformed : Option ℕ) (pairs texts : Pairs) → complete e malformed pairs ≡ Ok texts →
-    IsComplete e malformed pairs texts
-completed e (Some at) pairs texts h = absurd (cc)
-completed e None pairs texts h = by (has_needed e.kind pairs) refl h
-  where
-    by : (t : Bool) → has_needed e.kind pairs ≡ t → cond t (texts_read pairs) (fault e.tag kinds.BadAttribute) ≡ texts_read texts →
-        IsComplete e None pairs texts
-    by true needed k = record { none = refl; needed = needed; same = same_texts pairs texts k }
-    by false needed k = absurd (cc)
 
 pub element_wrong : (at : ℕ) (outer : Level) (c : Content) (name : Text) (body : BodyText) (f : DocFault) →
     element_read at name body outer c ≡ Err f → WrongElement at outer c name body f

@@ -1,5 +1,5 @@
 -- A value with a raw `<` or without an entity behind an `&` is read as that, behind what says a text.
-use Rattle.std.proofs.Common.{◌≡◌, ◌⊎◌, inl, inr, ℕ, zero, suc, ◌+◌, ◌<◌, Bool, true, false, cond, ◌==◌, List, [], ◌∷◌, ◌++◌, length, Option}
+use Rattle.std.proofs.Common.{◌≡◌, ◌⊎◌, inl, inr, ℕ, zero, suc, ◌+◌, ◌<◌, Bool, true, false, List, [], ◌∷◌, ◌++◌, length, Option}
 use Rattle.std.proofs.Common.{None, Some, Ok, Err, refl, sym, ap, ◌∙◌, subst, append_assoc, arith, encode_utf8}
 use Rattle.std.specs.List.{list_any}
 use Rattle.std.proofs.lemmas.List.{length-append}
@@ -7,10 +7,9 @@ use Rattle.fs_text.specs.Words.{is_byte, halves_of}
 use Rattle.fs_text.proofs.Cuts.{cut_behind, halved}
 use Rattle.fs_xml.specs.declared.stop.ValueFault.{ValueFault}
 use Rattle.fs_xml.specs.declared.stop.ValueFault.TheVariants.{Raw, BadEntity}
-use Rattle.fs_xml.specs.Results.{◌>>=◌}
 use Rattle.fs_xml.specs.Bytes.{offset}
-use Rattle.fs_xml.specs.Entities.{entity, is_special, Decoded, character_added, entity_on, entity_at, special_at, value_step, Values}
-use Rattle.fs_xml.specs.Entities.{value_on, value_within, value_text}
+use Rattle.fs_xml.specs.Entities.{entity, is_special, character_added, entity_on, entity_at, special_at, value_step, Values}
+use Rattle.fs_xml.specs.Entities.{value_within, value_text}
 use Rattle.fs_spelling.specs.Values.{SpellsValue, Nothing, Plain, Mark, Entity}
 use Rattle.fs_spelling.specs.Faults.{IsNoEntity}
 use Rattle.fs_spelling.proofs.ValueLaws.{plain_step, special_step, last_step, followed, entity_step, specials, Onward}

@@ -1,7 +1,8 @@
 -- What is read is what is spelt, from the text of a value up to a whole document.
-use Rattle.std.specs.Prelude.{◌≡◌, ◌⊎◌, ℕ, Bool, List, ◌++◌, None, Ok, Err, map}
+use Rattle.std.specs.Prelude.{◌≡◌, ◌⊎◌, ℕ, Bool, List, ◌++◌, None, Some, Ok, Err, map}
 use Rattle.fs_text.specs.Texts.{Text}
 use Rattle.fs_xml.specs.declared.attribute.Ending.{Ending}
+use Rattle.fs_xml.specs.declared.stop.TagStop.TheVariants as stop
 use Rattle.fs_xml.specs.Attributes.{Written, Has, part_at}
 use Rattle.fs_xml.specs.Entities.{value_text}
 use Rattle.fs_xml.specs.Markup.{Mark, Comment, End, mark_at}
@@ -12,7 +13,8 @@ use Rattle.fs_doc.specs.declared.element.Level.{Level}
 use Rattle.fs_doc.specs.Limits.{IsWithin}
 use Rattle.fs_doc.specs.Reading.{Configuration, config_of, element_read}
 use Rattle.fs_spelling.specs.Documents.{Begins, Spells}
-use Rattle.fs_spelling.specs.Faults.{HasFault}
+use Rattle.fs_spelling.specs.Marks.{IsCut, IsBad}
+use Rattle.fs_spelling.specs.Faults.{WrongElement, HasFault}
 use Rattle.fs_spelling.specs.Readings.{pair_of, ReadsAttribute, TakesAttribute, ReadsTag, TakesMark}
 use Rattle.fs_spelling.specs.Tags.{Pair, IsAttribute, IsComment, IsEndTag, IsTag}
 use Rattle.fs_spelling.specs.Values.{SpellsValue}
@@ -95,6 +97,25 @@ abbrev pub SpeltIsWithin : Type 0
 SpeltIsWithin = (bytes : Text) (c : Configuration) → Spells bytes c → IsWithin c
 
 -- ---- faults
+
+-- markup behind a `<` in an element is read as cut short exactly where it is
+abbrev pub CutIsRead : Type 0
+CutIsRead =
+    (end : ℕ) (name text : Text) →
+    (mark_at end text ≡ Err stop.Cut → IsCut (Some name) text) × (IsCut (Some name) text → mark_at end text ≡ Err stop.Cut)
+
+-- and as bad exactly where it is
+abbrev pub BadIsRead : Type 0
+BadIsRead =
+    (end : ℕ) (name text : Text) →
+    (mark_at end text ≡ Err stop.Bad → IsBad (Some name) text) × (IsBad (Some name) text → mark_at end text ≡ Err stop.Bad)
+
+-- the tag of an element is read as the fault for which it is wrong
+abbrev pub WrongElementIsRead : Type 0
+WrongElementIsRead =
+    (at : ℕ) (outer : Level) (c : Content) (name : Text) (body : BodyText) (f : DocFault) →
+    (element_read at name body outer c ≡ Err f → WrongElement at outer c name body f)
+    × (WrongElement at outer c name body f → element_read at name body outer c ≡ Err f)
 
 -- the fault that is told of bytes is one that they have
 abbrev pub FaultToldIsHad : Type 0

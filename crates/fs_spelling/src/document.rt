@@ -22,6 +22,11 @@ pub fn within_limits()
     ensures { laws.SpeltIsWithin }
 {}
 
+/// The tag of an element is read as the fault for which it is wrong.
+pub fn wrong_element()
+    ensures { laws.WrongElementIsRead }
+{}
+
 /// The fault that is told of bytes is one that they have, a fault that they have is told of them, and they have one at
 /// most. Bytes spell a configuration or have a fault, and never both.
 pub fn one_fault()

@@ -4,5 +4,5 @@
 mod document;
 mod markup;
 
-pub use document::{one_document, one_element, one_fault, within_limits};
-pub use markup::{one_attribute, one_markup, one_value};
+pub use document::{one_document, one_element, one_fault, within_limits, wrong_element};
+pub use markup::{one_attribute, one_markup, one_value, wrong_markup};

@@ -22,3 +22,9 @@ pub fn one_markup()
     ensures end_tag { laws.EndTagSpeltIsRead }
     ensures tag { laws.TagSpeltIsRead }
 {}
+
+/// Behind a `<` in an element markup is read as cut short, or as bad, exactly where it is.
+pub fn wrong_markup()
+    ensures cut { laws.CutIsRead }
+    ensures bad { laws.BadIsRead }
+{}

@@ -77,18 +77,20 @@ mark_is_read end around mark rest (AComment _ _ is) = ((Comment, rest), spelt_co
 mark_is_read end around mark rest (AnEnd outer name _ is) = ((End name, rest), spelt_end end mark name rest is)
 mark_is_read end around mark rest (ATag _ name attributes tail pairs malformed ending is_name apart are ends) =
     let written = all_written end attributes (tail ++ rest) pairs are in
-    let body : BodyText = record { attrs = written.0; malformed = broken_place end rest malformed; ending = ending } in
-    ((Start name body, rest), start_is_read end (name ++ (attributes ++ tail)) rest name body (record {
-      attributes = attributes;
-      tail = tail;
-      malformed = malformed;
-      whole = refl;
-      is_name = is_name;
-      apart = apart;
-      are = written.1;
-      ends = ends;
-      place = refl;
-    }))
+    let body : BodyText = record { attrs = written.0; malformed = broken_place end rest malformed; ending = ending } in (
+      (Start name body, rest),
+      start_is_read end (name ++ (attributes ++ tail)) rest name body (record {
+        attributes = attributes;
+        tail = tail;
+        malformed = malformed;
+        whole = refl;
+        is_name = is_name;
+        apart = apart;
+        are = written.1;
+        ends = ends;
+        place = refl;
+      }),
+    )
 
 pub front_is_read : (end : ℕ) (around : Option Text) (text : List ℕ) → HasMark around text →
     (x : Mark × List ℕ) × (mark_at end text ≡ Ok x)
@@ -159,15 +161,17 @@ comment_rest end around (b ∷ (c ∷ bytes)) = by (b == 45) (c == 45) refl refl
         → MarkRest end around (33 ∷ (b ∷ (c ∷ bytes))) ((cond s (cond t r (Err Bad)) (Err Bad)) >>= λ behind. Ok (Comment, behind))
     by true true is it (Ok rest) found = tt
     by true true is it (Err Cut) found =
-        let taken = comment_taken (bytes ++ codes "-->") found.0 found.1 in
-        (codes "-->", record {
-          mark = codes "!--" ++ taken.body;
-          rest = found.0;
-          whole = ap (λ n. 33 ∷ (n ∷ (c ∷ (bytes ++ codes "-->")))) (eqb-true b 45 is)
-              ∙ ap (λ n. 33 ∷ (45 ∷ (n ∷ (bytes ++ codes "-->")))) (eqb-true c 45 it)
-              ∙ ap (λ t. 33 ∷ (45 ∷ (45 ∷ t))) taken.whole;
-          is = AComment around (codes "!--" ++ taken.body) (record { body = taken.body; whole = refl; ends = taken.ends });
-        })
+        let taken = comment_taken (bytes ++ codes "-->") found.0 found.1 in (
+          codes "-->",
+          record {
+            mark = codes "!--" ++ taken.body;
+            rest = found.0;
+            whole = ap (λ n. 33 ∷ (n ∷ (c ∷ (bytes ++ codes "-->")))) (eqb-true b 45 is)
+                ∙ ap (λ n. 33 ∷ (45 ∷ (n ∷ (bytes ++ codes "-->")))) (eqb-true c 45 it)
+                ∙ ap (λ t. 33 ∷ (45 ∷ (45 ∷ t))) taken.whole;
+            is = AComment around (codes "!--" ++ taken.body) (record { body = taken.body; whole = refl; ends = taken.ends });
+          },
+        )
     by true true is it (Err Bad) found = absurd found
     by true false is it r found = λ other more. rw (is, it) refl
     by false t is it r found = λ other more. rw is refl

@@ -162,13 +162,16 @@ EndIs quote text (Err Bad) = (more : List ℕ) → tag_end quote (text ++ more) 
 
 cut_here : (quote : Option ℕ) → EndIs quote [] (Err Cut)
 cut_here None = (62 ∷ [], record { loose = []; whole = refl; is = NoneLoose })
-cut_here (Some quote) = (quote ∷ (62 ∷ []), record {
-  value = [];
-  behind = 62 ∷ [];
-  whole = refl;
-  none = refl;
-  takes = record { loose = []; whole = refl; is = NoneLoose };
-})
+cut_here (Some quote) = (
+  quote ∷ (62 ∷ []),
+  record {
+    value = [];
+    behind = 62 ∷ [];
+    whole = refl;
+    none = refl;
+    takes = record { loose = []; whole = refl; is = NoneLoose };
+  },
+)
 
 -- one more byte, which takes the text from one state to the other
 more_end : (quote next : Option ℕ) (b : ℕ) (text : List ℕ) (r : Rests)

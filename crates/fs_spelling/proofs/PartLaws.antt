@@ -146,16 +146,19 @@ PartRest end text (Err Bad) = (other : ℕ) (more : List ℕ) → part_at other 
 
 -- the tag ends here
 ended : (text gap more : List ℕ) (ending : Ending) → AreBlank gap → text ++ more ≡ gap ++ ending_text ending → GoesOn text
-ended text gap more ending blank whole = (more, record {
-  attributes = [];
-  tail = gap ++ ending_text ending;
-  pairs = [];
-  malformed = None;
-  ending = ending;
-  whole = whole;
-  are = NoMore;
-  ends = Well gap ending blank;
-})
+ended text gap more ending blank whole = (
+  more,
+  record {
+    attributes = [];
+    tail = gap ++ ending_text ending;
+    pairs = [];
+    malformed = None;
+    ending = ending;
+    whole = whole;
+    are = NoMore;
+    ends = Well gap ending blank;
+  },
+)
 
 -- one more attribute, and the tag ends
 valued : (text gap name behind further : List ℕ) (quote : ℕ) (value more : List ℕ) → gap ≢ [] → AreBlank gap → IsName name
@@ -167,30 +170,32 @@ valued text gap name behind further quote value more apart blank is behind_blank
     let split : (front ++ []) ++ (62 ∷ [])
     ≡ gap ++ (name ++ (behind ++ (61 ∷ (further ++ (quote ∷ (value ++ (quote ∷ (62 ∷ [])))))))) =
     ap (λ t. t ++ (62 ∷ [])) (append-nil front) ∙ seam_of gap name behind further quote value in
-    let pair : Pair = record { name = name; value = value } in
-    (more, record {
-      attributes = front ++ [];
-      tail = 62 ∷ [];
-      pairs = pair ∷ [];
-      malformed = None;
-      ending = Opens;
-      whole = whole ∙ sym split;
-      are = OneMore front [] pair [] (record {
-        before = gap;
-        gap = behind;
-        gap_behind = further;
-        quote = quote;
-        whole = refl;
-        apart = apart;
-        before_blank = blank;
-        gap_blank = behind_blank;
-        behind_blank = further_blank;
-        is_name = is;
-        quotes = quotes;
-        unbroken = none;
-      }) NoMore;
-      ends = Well [] Opens refl;
-    })
+    let pair : Pair = record { name = name; value = value } in (
+      more,
+      record {
+        attributes = front ++ [];
+        tail = 62 ∷ [];
+        pairs = pair ∷ [];
+        malformed = None;
+        ending = Opens;
+        whole = whole ∙ sym split;
+        are = OneMore front [] pair [] (record {
+          before = gap;
+          gap = behind;
+          gap_behind = further;
+          quote = quote;
+          whole = refl;
+          apart = apart;
+          before_blank = blank;
+          gap_blank = behind_blank;
+          behind_blank = further_blank;
+          is_name = is;
+          quotes = quotes;
+          unbroken = none;
+        }) NoMore;
+        ends = Well [] Opens refl;
+      },
+    )
   where
     seam_of : (gap name behind further : List ℕ) (quote : ℕ) (value : List ℕ)
         → (gap ++ (name ++ (behind ++ (61 ∷ (further ++ (quote ∷ (value ++ (quote ∷ [])))))))) ++ (62 ∷ [])

@@ -153,17 +153,20 @@ attribute_goes end so_far text bytes rest a (Ok (body, behind)) whole is on =
       ends = on.ends;
       place = on.place;
     }
-attribute_goes end so_far text bytes rest a (Err Cut) whole is (more, full) = (more, record {
-  attributes = bytes ++ full.attributes;
-  tail = full.tail;
-  pairs = pair_of a ∷ full.pairs;
-  malformed = full.malformed;
-  ending = full.ending;
-  whole = ap (λ t. t ++ more) whole ∙ append_assoc bytes rest more ∙ ap (λ t. bytes ++ t) full.whole
-      ∙ sym (append_assoc bytes full.attributes full.tail);
-  are = OneMore bytes full.attributes (pair_of a) full.pairs is.is full.are;
-  ends = full.ends;
-})
+attribute_goes end so_far text bytes rest a (Err Cut) whole is (more, full) = (
+  more,
+  record {
+    attributes = bytes ++ full.attributes;
+    tail = full.tail;
+    pairs = pair_of a ∷ full.pairs;
+    malformed = full.malformed;
+    ending = full.ending;
+    whole = ap (λ t. t ++ more) whole ∙ append_assoc bytes rest more ∙ ap (λ t. bytes ++ t) full.whole
+        ∙ sym (append_assoc bytes full.attributes full.tail);
+    are = OneMore bytes full.attributes (pair_of a) full.pairs is.is full.are;
+    ends = full.ends;
+  },
+)
 attribute_goes end so_far text bytes rest a (Err Bad) whole is stays = λ other others more fuel enough. by fuel other others more enough
   where
     by : (fuel other : ℕ) (others : List Written) (more : List ℕ) → length (text ++ more) < fuel →

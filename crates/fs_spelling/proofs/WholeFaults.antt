@@ -101,8 +101,13 @@ undeclared_stops bytes (inl (some, more, some_more, whole)) = by (starts_with na
         sizes : starts_with nat_eq bytes (codes "<?xml") ≡ true → length more ≡ 0
         sizes e =
             let cut = front_cut bytes (codes "<?xml") e in
-            omega (arith, ap length whole, length-append bytes more, ap length cut,
-            length-append (codes "<?xml") (drop (length (codes "<?xml")) bytes))
+            omega (
+              arith,
+              ap length whole,
+              length-append bytes more,
+              ap length cut,
+              length-append (codes "<?xml") (drop (length (codes "<?xml")) bytes),
+            )
 
         nothing : (t : Text) → length t ≡ 0 → t ≡ []
         nothing [] none = refl

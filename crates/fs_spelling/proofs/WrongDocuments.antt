@@ -72,8 +72,13 @@ mark_goes end opened c text before more rest next reached filler e =
       front = text ++ (before ++ (60 ∷ stepped.item));
       whole = whole ∙ ap (λ t. (text ++ (before ++ (60 ∷ stepped.item))) ++ t) both.1;
       reached = subst P both.0 stepped.reached;
-      shorter = omega (arith, ap length stepped.whole, ap length both.1, length-append stepped.item behind,
-          length-append before (60 ∷ more));
+      shorter = omega (
+        arith,
+        ap length stepped.whole,
+        ap length both.1,
+        length-append stepped.item behind,
+        length-append before (60 ∷ more),
+      );
     }
   where
     same_on : (x y : ReadSoFar) (a b : Text) → On x a ≡ On y b → (x ≡ y) × (a ≡ b)

@@ -15,6 +15,7 @@ pub mod WrongElements
 pub mod Again
 pub mod Sound
 pub mod NextLaws
+pub mod DeclarationLaws
 pub mod Whole
 pub mod WrongDocuments
 pub mod WholeFaults

@@ -19,6 +19,7 @@ use Rattle.fs_spelling.specs.Tags.{AreBlank}
 use Rattle.fs_spelling.specs.Documents.{IsDocument, Spells}
 use Rattle.fs_spelling.proofs.Binds.{bind_ok}
 use Rattle.fs_spelling.proofs.Runs.{past_run, run_passes}
+use Rattle.fs_spelling.proofs.DeclarationLaws.{declaration_read, declaration_is_read}
 use Rattle.fs_spelling.proofs.Again.{state, goes, last_round}
 use Rattle.fs_spelling.proofs.Sound.{read_is_found}
 
@@ -33,7 +34,7 @@ document_read bytes content is =
     let left = length rest - all.rounds in
     let enough : length rest + 1 ≡ all.rounds + suc left = omega (arith, all.within, length-append is.text is.behind) in
     let read = all.goes (length rest + 1) (suc left) enough ∙ last_round end content is.behind left is.blank is.done in
-    ap (λ (r : Result Text DocFault). r >>= λ t. read_within (length t + 1) end (state [] new_content) t) is.declared ∙ read
+    ap (λ (r : Result Text DocFault). r >>= λ t. read_within (length t + 1) end (state [] new_content) t) (declaration_is_read bytes rest is.declared) ∙ read
 
 abbrev declared_read : Text → Result Text DocFault
 declared_read t = Ok t
@@ -46,7 +47,7 @@ document_found bytes content e =
     record {
       text = found.text;
       behind = found.behind;
-      declared = went.1 ∙ ap declared_read found.whole;
+      declared = declaration_read bytes (found.text ++ found.behind) (went.1 ∙ ap declared_read found.whole);
       inside = found.inside;
       blank = found.blank;
       done = found.done;

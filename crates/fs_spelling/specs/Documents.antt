@@ -1,5 +1,5 @@
 -- Which bytes are a document that says a configuration.
-use Rattle.std.specs.Prelude.{◌≡◌, ◌≤◌, ◌⊎◌, true, false, if◌then◌else◌, List, [], ◌∷◌, ◌++◌, map, None, Ok, length}
+use Rattle.std.specs.Prelude.{◌≡◌, ◌≤◌, ◌⊎◌, true, false, if◌then◌else◌, List, [], ◌∷◌, ◌++◌, map, None, Ok, length, codes}
 use Rattle.std.specs.List.{list_any}
 use Rattle.fs_text.specs.Words.{is_byte}
 use Rattle.fs_text.specs.Texts.{Text}
@@ -14,7 +14,7 @@ use Rattle.fs_doc.specs.Values.{replaced}
 use Rattle.fs_doc.specs.Elements.{kind_in, has, has_needed, is_foreign}
 use Rattle.fs_doc.specs.Attributes.{Tagged, is_timed, value_fault}
 use Rattle.fs_doc.specs.Contents.{new_content, element_begun, element_ended}
-use Rattle.fs_doc.specs.Reading.{Configuration, configured, is_empty_level, past_declaration}
+use Rattle.fs_doc.specs.Reading.{Configuration, configured, is_empty_level}
 use Rattle.fs_spelling.specs.Values.{SpellsValue}
 use Rattle.fs_spelling.specs.Tags.{Pair, AreBlank, IsTag, IsEndTag, IsComment}
 
@@ -73,11 +73,23 @@ pub data Inside : (outer : Level) (c : Content) (text : Text) (d : Content) → 
 
 -- ---- documents
 
+-- no `?>` stands in the text
+abbrev pub LacksEnd : Text → Type 0
+LacksEnd text = (front behind : Text) → text ≡ front ++ (codes "?>" ++ behind) → ⊥
+
+-- behind the declaration stands this text: behind `<?xml` and the next `?>`, or from the first byte on where there is none and the bytes
+-- could not go on to one
+pub data IsDeclared : (bytes text : Text) → Type 0 where
+  Declared : (bytes front text : Text) → bytes ≡ codes "<?xml" ++ (front ++ (codes "?>" ++ text)) → LacksEnd (front ++ codes "?")
+      → IsDeclared bytes text
+  NotDeclared : (bytes : Text) → ((rest : Text) → bytes ≡ codes "<?xml" ++ rest → ⊥)
+      → ((more : Text) → codes "<?xml" ≡ bytes ++ more → ⊥) → IsDeclared bytes bytes
+
 -- behind the declaration, if there is one, stands one document among blanks and comments
 pub record IsDocument (bytes : Text) (content : Content) : Type 0 where
   pub text : Text
   pub behind : Text
-  pub declared : past_declaration bytes ≡ Ok (text ++ behind)
+  pub declared : IsDeclared bytes (text ++ behind)
   pub inside : Inside level.Top new_content text content
   pub blank : AreBlank behind
   pub done : content.done ≡ true

@@ -21,12 +21,12 @@ use Rattle.fs_doc.specs.Faults.{fault_at}
 use Rattle.fs_doc.specs.Elements.{kind_in, has, has_needed, is_foreign}
 use Rattle.fs_doc.specs.Attributes.{Tagged, is_timed, value_fault, fault_offset}
 use Rattle.fs_doc.specs.Contents.{new_content, element_begun}
-use Rattle.fs_doc.specs.Reading.{text_kind, is_empty_level, past_declaration}
+use Rattle.fs_doc.specs.Reading.{text_kind, is_empty_level}
 use Rattle.fs_spelling.specs.Values.{SpellsValue}
 use Rattle.fs_spelling.specs.Tags.{Pair, AreBlank, IsTag, IsEndTag, IsComment}
 use Rattle.fs_spelling.specs.Readings.{pair_of}
 use Rattle.fs_spelling.specs.Marks.{IsStart, IsCut, IsBad}
-use Rattle.fs_spelling.specs.Documents.{tag_of, text_with_globals, Say, Begins, IsFiller, Inside}
+use Rattle.fs_spelling.specs.Documents.{tag_of, text_with_globals, Say, Begins, IsFiller, Inside, LacksEnd, IsDeclared}
 
 -- ---- an attribute
 
@@ -122,12 +122,12 @@ pub data Wrong : (end : ℕ) (outer : Level) (around : Option Text) (c : Content
 abbrev pub IsUndeclared : Text → Type 0
 IsUndeclared bytes =
     ((bytes ≢ []) × (more : Text) × (more ≢ []) × (bytes ++ more ≡ codes "<?xml"))
-    ⊎ ((text : Text) × (bytes ≡ codes "<?xml" ++ text) × ((front behind : Text) → text ≡ front ++ (codes "?>" ++ behind) → ⊥))
+    ⊎ ((text : Text) × (bytes ≡ codes "<?xml" ++ text) × LacksEnd text)
 
 -- the document has this fault: it is too large, or its declaration has no end, or it is not blank and something is wrong behind the
 -- declaration
 pub data HasFault : (bytes : Text) (f : DocFault) → Type 0 where
   Large : (bytes : Text) → 1048576 < length bytes → HasFault bytes (fault_at 1048576 kind.TooLarge)
   Undeclared : (bytes : Text) → length bytes ≤ 1048576 → IsUndeclared bytes → HasFault bytes (fault_at (length bytes) kind.Truncated)
-  Within : (bytes text : Text) (f : DocFault) → length bytes ≤ 1048576 → (AreBlank bytes → ⊥) → past_declaration bytes ≡ Ok text
+  Within : (bytes text : Text) (f : DocFault) → length bytes ≤ 1048576 → (AreBlank bytes → ⊥) → IsDeclared bytes text
       → Wrong (length bytes) level.Top None new_content text f → HasFault bytes f

@@ -73,9 +73,9 @@ start_is_read end bytes rest name body is =
 -- markup is read, whatever stands behind it
 pub mark_is_read : (end : ℕ) (around : Option Text) (mark rest : List ℕ) → IsMark around mark →
     (x : Mark × List ℕ) × (mark_at end (mark ++ rest) ≡ Ok x)
-mark_is_read end around mark rest (AComment _ _ is) = ((Comment, rest), spelt_comment end mark rest is)
-mark_is_read end around mark rest (AnEnd outer name _ is) = ((End name, rest), spelt_end end mark name rest is)
-mark_is_read end around mark rest (ATag _ name attributes tail pairs malformed ending is_name apart are ends) =
+mark_is_read end around mark rest (AComment _ is) = ((Comment, rest), spelt_comment end mark rest is)
+mark_is_read end around mark rest (AnEnd name _ some is) = ((End name, rest), spelt_end end mark name rest is)
+mark_is_read end around mark rest (ATag name attributes tail pairs malformed ending is_name apart are ends) =
     let written = all_written end attributes (tail ++ rest) pairs are in
     let body : BodyText = record { attrs = written.0; malformed = broken_place end rest malformed; ending = ending } in (
       (Start name body, rest),
@@ -146,14 +146,14 @@ comment_rest : (end : ℕ) (around : Option Text) (bytes : List ℕ) →
 unfolding comment_at second_dash_at mark_at
 comment_rest end around [] =
     a_mark around (33 ∷ []) (codes "---->") (codes "!---->") refl
-    (AComment around (codes "!---->") (record { body = codes "-->"; whole = refl; ends = refl }))
+    (AComment (codes "!---->") (record { body = codes "-->"; whole = refl; ends = refl }))
 comment_rest end around (b ∷ []) = by (b == 45) refl
   where
     by : (t : Bool) → (b == 45) ≡ t →
         MarkRest end around (33 ∷ (b ∷ [])) ((cond t (Err Cut) (Err Bad)) >>= λ behind. Ok (Comment, behind))
     by true is =
         a_mark around (33 ∷ (b ∷ [])) (codes "--->") (codes "!---->") (ap (λ n. 33 ∷ (n ∷ codes "--->")) (eqb-true b 45 is))
-        (AComment around (codes "!---->") (record { body = codes "-->"; whole = refl; ends = refl }))
+        (AComment (codes "!---->") (record { body = codes "-->"; whole = refl; ends = refl }))
     by false is = λ other more. rw is refl
 comment_rest end around (b ∷ (c ∷ bytes)) = by (b == 45) (c == 45) refl refl (comment_end bytes) (comment_is bytes)
   where
@@ -169,7 +169,7 @@ comment_rest end around (b ∷ (c ∷ bytes)) = by (b == 45) (c == 45) refl refl
             whole = ap (λ n. 33 ∷ (n ∷ (c ∷ (bytes ++ codes "-->")))) (eqb-true b 45 is)
                 ∙ ap (λ n. 33 ∷ (45 ∷ (n ∷ (bytes ++ codes "-->")))) (eqb-true c 45 it)
                 ∙ ap (λ t. 33 ∷ (45 ∷ (45 ∷ t))) taken.whole;
-            is = AComment around (codes "!--" ++ taken.body) (record { body = taken.body; whole = refl; ends = taken.ends });
+            is = AComment (codes "!--" ++ taken.body) (record { body = taken.body; whole = refl; ends = taken.ends });
           },
         )
     by true true is it (Err Bad) found = absurd found
@@ -187,7 +187,7 @@ an_end : (outer name gap text more : List ℕ) → IsName name → AreBlank gap 
 an_end outer name gap text more is blank whole =
     let mark : List ℕ = 47 ∷ (name ++ (gap ++ (62 ∷ []))) in
     a_mark (Some outer) text more mark whole
-    (AnEnd outer name mark (record { gap = gap; whole = refl; is_name = is; gap_blank = blank }))
+    (AnEnd name mark (λ none. absurd (cc)) (record { gap = gap; whole = refl; is_name = is; gap_blank = blank }))
 
 end_goes : (name gap : List ℕ) (c : ℕ) (more : List ℕ) → IsName name → AreBlank gap → Stops is_name_byte (gap ++ (c ∷ more)) →
     is_blank c ≡ false → end_at (name ++ (gap ++ (c ∷ more))) ≡ closed_at name (c ∷ more)
@@ -273,7 +273,7 @@ tag_rest end around b bytes [] begins behind (Err Cut) read goes =
     let name = name_of text in
     a_mark around text (62 ∷ []) (name ++ ([] ++ (62 ∷ [])))
     (ap (λ t. t ++ (62 ∷ [])) (sym (run_past is_name_byte text) ∙ ap (λ t. name ++ t) behind ∙ append-nil name))
-    (ATag around name [] (62 ∷ []) [] None Opens (name_is text b bytes refl begins) greater_stops.0 NoMore (Well [] Opens refl))
+    (ATag name [] (62 ∷ []) [] None Opens (name_is text b bytes refl begins) greater_stops.0 NoMore (Well [] Opens refl))
 tag_rest end around b bytes (c ∷ third) begins behind (Err Cut) read (more, full) =
     let text : List ℕ = b ∷ bytes in
     let name = name_of text in
@@ -283,7 +283,7 @@ tag_rest end around b bytes (c ∷ third) begins behind (Err Cut) read (more, fu
     a_mark around text more (name ++ (full.attributes ++ full.tail))
     (ap (λ t. t ++ more) (sym (run_past is_name_byte text) ∙ ap (λ t. name ++ t) behind) ∙ append_assoc name (c ∷ third) more
     ∙ ap (λ t. name ++ t) full.whole)
-    (ATag around name full.attributes full.tail full.pairs full.malformed full.ending (name_is text b bytes refl begins)
+    (ATag name full.attributes full.tail full.pairs full.malformed full.ending (name_is text b bytes refl begins)
     (subst P full.whole on) full.are full.ends)
 tag_rest end around b bytes [] begins behind (Err Bad) read stays =
     let both : Err Cut ≡ Err Bad = sym (nothing_cut end) ∙ read in absurd (cc)
@@ -310,7 +310,7 @@ pub mark_rest : (end : ℕ) (around : Option Text) (text : List ℕ) → (around
 unfolding mark_at start_at body_at
 mark_rest end around [] may =
     a_mark around [] (97 ∷ (62 ∷ [])) ((97 ∷ []) ++ ([] ++ (62 ∷ []))) refl
-    (ATag around (97 ∷ []) [] (62 ∷ []) [] None Opens letter greater_stops.0 NoMore (Well [] Opens refl))
+    (ATag (97 ∷ []) [] (62 ∷ []) [] None Opens letter greater_stops.0 NoMore (Well [] Opens refl))
 mark_rest end around (b ∷ bytes) may = by (b == 33) (b == 47) (begins_name b) refl refl refl
   where
     closing : (a : Option Text) → (a ≡ None → starts_with nat_eq (b ∷ bytes) (codes "/") ≡ false) → b ≡ 47 →

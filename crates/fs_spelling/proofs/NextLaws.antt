@@ -59,9 +59,10 @@ never_slash text slash has = by has.mark has.is has.whole
     never other = let both : true ≡ false = sym slash ∙ other in cc
 
     by : (mark : Text) → IsMark None mark → text ≡ mark ++ has.rest → ⊥
-    by mark (AComment _ _ is) whole =
+    by mark (AComment _ is) whole =
         never (subst P (sym (whole ∙ ap (λ m. m ++ has.rest) is.whole)) refl)
-    by mark (ATag _ name attributes tail pairs malformed ending is apart are ends) whole =
+    by mark (AnEnd name _ some is) whole = some refl
+    by mark (ATag name attributes tail pairs malformed ending is apart are ends) whole =
         let split : text ≡ is.first ∷ ((is.others ++ (attributes ++ tail)) ++ has.rest) =
         whole ∙ ap (λ n. (n ++ (attributes ++ tail)) ++ has.rest) is.whole in
         never (subst P (sym split) (no_slash is.first ((is.others ++ (attributes ++ tail)) ++ has.rest)
@@ -79,7 +80,7 @@ front_found : (end : ℕ) (around : Option Text) (text : Text) → May around te
     mark_at end text ≡ Ok (mark, rest) → MarkRest end around text (Ok (mark, rest)) → HasMark around text
 front_found end around text may Comment rest read found =
     let taken = taken_mark end text Comment rest read in
-    record { mark = taken.bytes; rest = rest; whole = taken.whole; is = AComment around taken.bytes taken.is }
+    record { mark = taken.bytes; rest = rest; whole = taken.whole; is = AComment taken.bytes taken.is }
 front_found end None text may (End name) rest read found =
     let taken = taken_mark end text (End name) rest read in
     let P : Text → Type 0 = λ t. starts_with nat_eq t (codes "/") ≡ false in
@@ -87,7 +88,7 @@ front_found end None text may (End name) rest read found =
     let both : true ≡ false = subst P (taken.whole ∙ ap (λ m. m ++ rest) is.whole) (may refl) in absurd (cc)
 front_found end (Some outer) text may (End name) rest read found =
     let taken = taken_mark end text (End name) rest read in
-    record { mark = taken.bytes; rest = rest; whole = taken.whole; is = AnEnd outer name taken.bytes taken.is }
+    record { mark = taken.bytes; rest = rest; whole = taken.whole; is = AnEnd name taken.bytes (λ none. absurd (cc)) taken.is }
 front_found end around text may (Start name body) rest read found =
     let P : Text → Type 0 = λ t. IsMark around t in
     let is = found.is in
@@ -95,7 +96,7 @@ front_found end around text may (Start name body) rest read found =
       mark = found.bytes;
       rest = rest;
       whole = found.whole;
-      is = subst P (sym is.whole) (ATag around name is.attributes is.tail (map pair_of body.attrs) is.malformed body.ending is.is_name
+      is = subst P (sym is.whole) (ATag name is.attributes is.tail (map pair_of body.attrs) is.malformed body.ending is.is_name
           is.apart (all_attributes end is.attributes (is.tail ++ rest) body.attrs is.are) is.ends);
     }
 
@@ -184,14 +185,14 @@ stop_wrong end at outer around c text f (Err WasCut) read found e = by c.done re
     by : (t : Bool) → c.done ≡ t → stopped {X = Mark × Text} (stop_fault t end at WasCut) ≡ stopped f → P f
     by true done h =
         let same : fault_at at kinds.BadTag ≡ f = cc in
-        subst P same (CutBehind end at outer around c text (cut_is end around text read found) done)
+        subst P same (CutBehind text (cut_is end around text read found) done)
     by false done h =
         let same : fault_at end kinds.Truncated ≡ f = cc in
-        subst P same (Cut end at outer around c text (cut_is end around text read found) done)
+        subst P same (Cut text (cut_is end around text read found) done)
 stop_wrong end at outer around c text f (Err WasBad) read found e =
     let P : DocFault → Type 0 = λ g. WrongMark end at outer around c text g in
     let same : fault_at at kinds.BadTag ≡ f = cc in
-    subst P same (NoMark end at outer around c text (bad_is end around text found))
+    subst P same (NoMark text (bad_is end around text found))
 
 mark_stop_wrong : (end at : ℕ) (opened : List Opened) (c : Content) (text : Text) (f : DocFault) →
     mark_read c.done (is_outside opened) end at text ≡ Err f → WrongMark end at (level_in opened) (around_in opened) c text f
@@ -210,7 +211,7 @@ mark_stop_wrong end at opened c text f e = by (either_way opened text)
         let here : fault at kinds.BadTag ≡ stopped {X = Mark × Text} f = sym (slash_read c.done end at text slash) ∙ subst P none e in
         let same : fault_at at kinds.BadTag ≡ f = cc in
         let R : DocFault → Type 0 = λ g. WrongMark end at level.Top None c text g in
-        subst Q (sym none) (subst R same (NoMark end at level.Top None c text (slash_bad text slash)))
+        subst Q (sym none) (subst R same (NoMark text (slash_bad text slash)))
 
 -- markup that is read and may not be entered
 entry_wrong : (end at : ℕ) (opened : List Opened) (c : Content) (text rest : Text) (mark : Mark) (f : DocFault) →
@@ -227,7 +228,7 @@ entry_wrong end at opened c text rest Comment f read may found e = by (is_empty_
         let same : fault_at at kinds.BadTag ≡ f = cc in
         let P : Text → DocFault → Type 0 = λ t g. WrongMark end at (level_in opened) (around_in opened) c t g in
         subst (λ t. P t f) (sym taken.whole)
-        (subst (P (taken.bytes ++ rest)) same (RemarkWithin end at (level_in opened) (around_in opened) c taken.bytes rest empty taken.is))
+        (subst (P (taken.bytes ++ rest)) same (RemarkWithin taken.bytes rest empty taken.is))
     by false empty h = absurd (cc)
 entry_wrong end at [] c text rest (End name) f read may found e =
     absurd (
@@ -249,7 +250,7 @@ entry_wrong end at (o ∷ opened) c text rest (End name) f read may found e =
         let other : o.name ≢ name = λ equal. let both : false ≡ true = same equal in cc in
         let P : Text → DocFault → Type 0 = λ t g. WrongMark end at o.level (Some o.name) c t g in
         subst (λ t. P t f) (sym taken.whole)
-        (subst (P (taken.bytes ++ rest)) is (OtherEnd end at o.level c o.name name taken.bytes rest taken.is other))
+        (subst (P (taken.bytes ++ rest)) is (OtherEnd o.name name taken.bytes rest refl taken.is other))
 entry_wrong end at opened c text rest (Start name body) f read may found e =
     by (bind_err (element_read at name body (level_in opened) c) (λ x. Ok (with_element body.ending name opened x)) f e)
   where
@@ -258,7 +259,7 @@ entry_wrong end at opened c text rest (Start name body) f read may found e =
         → WrongMark end at (level_in opened) (around_in opened) c text f
     by (inl stops) =
         let P : Text → Type 0 = λ t. WrongMark end at (level_in opened) (around_in opened) c t f in
-        subst P (sym found.whole) (OfElement end at (level_in opened) (around_in opened) c found.bytes rest name body f found.is
+        subst P (sym found.whole) (OfElement found.bytes rest name body f found.is
         (element_wrong at (level_in opened) c name body f stops))
     by (inr (x, went, h)) = absurd (cc)
 
@@ -324,7 +325,7 @@ stray_wrong end outer around c bytes (b ∷ rest) f is other stops e = by (b == 
         let P : Text → Type 0 = λ t. WrongNext end outer around c t f in
         let Q : DocFault → Type 0 = λ g. WrongNext end outer around c (take_while is_blank bytes ++ (b ∷ rest)) g in
         subst P (ap (λ t. take_while is_blank bytes ++ t) (sym is) ∙ run_past is_blank bytes)
-        (subst Q same (Stray end outer around c (take_while is_blank bytes) rest b other (run_passes is_blank bytes) stops mark))
+        (subst Q same (Stray (take_while is_blank bytes) rest b other (run_passes is_blank bytes) stops mark))
 
 text_wrong : (end : ℕ) (outer : Level) (around : Option Text) (c : Content) (bytes : Text) (f : DocFault) →
     text_at end outer bytes ≡ Err f → WrongNext end outer around c bytes f
@@ -348,11 +349,11 @@ end_wrong end [] c text f filler e = by c.done refl e
     by false done h =
         let same : fault_at end kinds.Truncated ≡ f = cc in
         let P : DocFault → Type 0 = λ g. WrongNext end level.Top None c text g in
-        subst P same (Ends end level.Top None c text filler (λ none. done))
+        subst P same (Ends text filler (λ none. done))
 end_wrong end (o ∷ opened) c text f filler e =
     let same : fault_at end kinds.Truncated ≡ f = cc in
     let P : DocFault → Type 0 = λ g. WrongNext end o.level (Some o.name) c text g in
-    subst P same (Ends end o.level (Some o.name) c text filler (λ none. absurd (cc)))
+    subst P same (Ends text filler (λ none. absurd (cc)))
 
 pub next_wrong : (end : ℕ) (opened : List Opened) (c : Content) (bytes : Text) (f : DocFault) → round end (state opened c) bytes ≡ Err f →
     WrongNext end (level_in opened) (around_in opened) c bytes f
@@ -370,7 +371,7 @@ next_wrong end opened c bytes f e =
     behind text (b ∷ more) whole filler begins h =
         let Q : ℕ → Type 0 = λ n. at_mark end (state opened c) (n ∷ more) ≡ Err f in
         subst P (sym (whole ∙ ap (λ n. text ++ (n ∷ more)) begins))
-        (OfMark end (level_in opened) (around_in opened) c text more f filler
+        (OfMark text more f filler
         (mark_wrong end (offset end (60 ∷ more)) opened c more f (subst Q begins h)))
 
     by : (text_at end (level_in opened) bytes ≡ Err f)
@@ -429,22 +430,22 @@ mark_stops : (end at : ℕ) (opened : List Opened) (outer : Level) (around : Opt
     WrongMark end at outer around c text f → level_in opened ≡ outer → around_in opened ≡ around
     → Entered opened c at (mark_read c.done (is_outside opened) end at text) ≡ Err f
 unfolding mark_entered start_entered end_entered
-mark_stops end at opened outer around c text f (Cut _ _ _ _ _ _ is done) here named =
+mark_stops end at opened outer around c text f (Cut _ is done) here named =
     let P : Option Text → Type 0 = λ a. IsCut a text in
     ap (Entered opened c at) (cut_entered end at opened c text (subst P (sym named) is)
     ∙ ap (λ d. stopped (stop_fault d end at WasCut)) done)
-mark_stops end at opened outer around c text f (CutBehind _ _ _ _ _ _ is done) here named =
+mark_stops end at opened outer around c text f (CutBehind _ is done) here named =
     let P : Option Text → Type 0 = λ a. IsCut a text in
     ap (Entered opened c at) (cut_entered end at opened c text (subst P (sym named) is)
     ∙ ap (λ d. stopped (stop_fault d end at WasCut)) done)
-mark_stops end at opened outer around c text f (NoMark _ _ _ _ _ _ is) here named =
+mark_stops end at opened outer around c text f (NoMark _ is) here named =
     let P : Option Text → Type 0 = λ a. IsBad a text in
     ap (Entered opened c at) (bad_entered end at opened c text (subst P (sym named) is))
-mark_stops end at opened outer around c text f (RemarkWithin _ _ _ _ _ mark rest empty is) here named =
+mark_stops end at opened outer around c text f (RemarkWithin mark rest empty is) here named =
     ap (Entered opened c at) (comment_is_read c.done (is_outside opened) end at mark rest is)
     ∙ ap (λ t. cond t (fault at kinds.BadTag) (Ok (state opened c)) >>= λ next. Ok (On next rest)) (ap is_empty_level here ∙ empty)
-mark_stops end at opened outer around c text f (OtherEnd _ _ _ _ name other mark rest is different) here named =
-    let o = around_outside opened name named in
+mark_stops end at opened outer around c text f (OtherEnd name other mark rest open_is is different) here named =
+    let o = around_outside opened name (named ∙ open_is) in
     let P : List Opened → Type 0 = λ os. Entered os c at (mark_read c.done (is_outside os) end at (mark ++ rest)) ≡ fault at kinds.BadTag in
     let apart : bytes_eq o.0.name other ≡ false =
     not_same (bytes_eq o.0.name other) (λ t. different (sym o.3 ∙ (bytes_eq-Decides o.0.name other).0 t)) in
@@ -456,7 +457,7 @@ mark_stops end at opened outer around c text f (OtherEnd _ _ _ _ name other mark
     not_same : (t : Bool) → (t ≡ true → ⊥) → t ≡ false
     not_same true never = absurd (never refl)
     not_same false never = refl
-mark_stops end at opened outer around c text f (OfElement _ _ _ _ _ mark rest name body _ is wrong) here named =
+mark_stops end at opened outer around c text f (OfElement mark rest name body _ is wrong) here named =
     let P : Level → Type 0 = λ l. WrongElement at l c name body f in
     ap (Entered opened c at) (mark_is_read c.done (is_outside opened) end at mark rest (Start name body)
     (start_other end mark rest name body is) (start_is_read end mark rest name body is))
@@ -479,16 +480,16 @@ ends_read end (o ∷ opened) c over = refl
 pub next_stops : (end : ℕ) (opened : List Opened) (outer : Level) (around : Option Text) (c : Content) (text : Text) (f : DocFault) →
     WrongNext end outer around c text f → level_in opened ≡ outer → around_in opened ≡ around → round end (state opened c) text ≡ Err f
 unfolding round at_mark
-next_stops end opened outer around c text f (Stray _ _ _ _ before rest b other blank stops mark) here named =
+next_stops end opened outer around c text f (Stray before rest b other blank stops mark) here named =
     ap (λ l. text_at end l (before ++ (b ∷ rest)) >>= λ t. at_mark end (state opened c) t) here
     ∙ ap (λ (r : Result Text DocFault). r >>= λ t. at_mark end (state opened c) t)
     (stray_read end outer before rest b other blank stops mark)
-next_stops end opened outer around c text f (Ends _ _ _ _ _ filler over) here named =
+next_stops end opened outer around c text f (Ends _ filler over) here named =
     ap (λ t. text_at end (level_in opened) t >>= λ rest. at_mark end (state opened c) rest) (sym (append-nil text))
     ∙ ap (λ (r : Result Text DocFault). r >>= λ t. at_mark end (state opened c) t)
     (text_read end (level_in opened) text [] (filler_here opened outer text here filler) tt)
     ∙ ends_read end opened c (λ none. over (sym named ∙ none))
-next_stops end opened outer around c text f (OfMark _ _ _ _ before rest _ filler wrong) here named =
+next_stops end opened outer around c text f (OfMark before rest _ filler wrong) here named =
     ap (λ (r : Result Text DocFault). r >>= λ t. at_mark end (state opened c) t)
     (text_read end (level_in opened) before (60 ∷ rest) (filler_here opened outer before here filler) refl)
     ∙ mark_stops end (offset end (60 ∷ rest)) opened outer around c rest f wrong here named

@@ -38,9 +38,9 @@ document_wrong bytes f small some e =
     by (inl stops) =
         let is = undeclared_read bytes f not_empty stops in
         let P : DocFault → Type 0 = λ g. HasFault bytes g in
-        subst P is.1 (Undeclared bytes small is.0)
+        subst P is.1 (Undeclared small is.0)
     by (inr (t, read, h)) =
-        Within bytes t f small some (declaration_read bytes t read)
+        Within t f small some (declaration_read bytes t read)
         (read_wrong (length t + 1) (length bytes) f [] new_content [] t (Bare level.Top new_content) (omega arith) h)
 
 large : (bytes : Text) → nat_lt 1048576 (length bytes) ≡ true → 1048576 < length bytes
@@ -67,7 +67,7 @@ fault_is_had bytes f e = by (nat_lt 1048576 (length bytes)) refl e
     by : (t : Bool) → nat_lt 1048576 (length bytes) ≡ t
         → cond t (fault 1048576 kinds.TooLarge)
         (Configured (cond (length (past is_blank bytes) == 0) (contents new_content) (content_of bytes))) ≡ stopped f → HasFault bytes f
-    by true is h = let same : fault_at 1048576 kinds.TooLarge ≡ f = cc in subst P same (Large bytes (large bytes is))
+    by true is h = let same : fault_at 1048576 kinds.TooLarge ≡ f = cc in subst P same (Large (large bytes is))
     by false is h =
         go_on (bind_err (cond (length (past is_blank bytes) == 0) (contents new_content) (content_of bytes)) (λ c. Ok (configured c)) f h)
       where
@@ -88,14 +88,14 @@ small_read bytes f small some e =
 
 pub had_is_told : (bytes : Text) (f : DocFault) → HasFault bytes f → config_of bytes ≡ Err f
 unfolding config_of content_of document_of
-had_is_told bytes f (Large _ long) =
+had_is_told bytes f (Large long) =
     ap (λ t. cond t (fault 1048576 kinds.TooLarge)
     (Configured (cond (length (past is_blank bytes) == 0) (contents new_content) (content_of bytes)))) (long_tested bytes long)
-had_is_told bytes f (Undeclared _ small is) =
+had_is_told bytes f (Undeclared small is) =
     small_read bytes f small (undeclared_some bytes is)
     (ap (λ (r : Result Text DocFault). r >>= λ t. read_within (length t + 1) (length bytes) (state [] new_content) t)
     (undeclared_stops bytes is))
-had_is_told bytes f (Within _ text _ small some declared wrong) =
+had_is_told bytes f (Within text _ small some declared wrong) =
     small_read bytes f small some
     (ap (λ (r : Result Text DocFault). r >>= λ t. read_within (length t + 1) (length bytes) (state [] new_content) t)
     (declaration_is_read bytes text declared)

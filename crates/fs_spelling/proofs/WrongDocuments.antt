@@ -37,7 +37,7 @@ climb end f (o ∷ opened) c text rest w wrong =
     let P : Text → Type 0 = λ t. Wrong end level.Top None new_content t f in
     let inner = wrong w.begun_with w.held w.inside in
     subst P (sym split) (climb end f opened w.before_it w.front deeper w.reached
-    (λ a t inside. Deeper end (level_in opened) o.level (around_in opened) a w.before_it w.begun_with t w.filler w.tag (w.held ++ rest)
+    (λ a t inside. Deeper (level_in opened) o.level (around_in opened) a w.before_it w.begun_with t w.filler w.tag (w.held ++ rest)
     o.name w.pairs f inside w.may w.is_tag w.begins inner))
   where
     seam_of : (front filler tag held : Text) → (front ++ (filler ++ (tag ++ held))) ++ rest ≡ front ++ (filler ++ (tag ++ (held ++ rest)))
@@ -136,7 +136,7 @@ read_wrong (suc fuel) end f opened c text rest reached enough e =
         → read_within fuel end next behind ≡ Err f → P (front ++ behind)) → P (text ++ rest)
     by (inl stops) again =
         climb end f opened c text rest reached
-        (λ a t inside. Here end (level_in opened) (around_in opened) a c t rest f inside (next_wrong end opened c rest f stops))
+        (λ a t inside. Here (level_in opened) (around_in opened) a c t rest f inside (next_wrong end opened c rest f stops))
     by (inr (n, read, h)) again = onward n read h again
 
 -- ---- what is wrong is read
@@ -144,13 +144,13 @@ read_wrong (suc fuel) end f opened c text rest reached enough e =
 pub wrong_read : (end : ℕ) (outer : Level) (around : Option Text) (c : Content) (text : Text) (f : DocFault) → Wrong end outer around c text f →
     (opened : List Opened) → level_in opened ≡ outer → around_in opened ≡ around → (fuel : ℕ) → length text < fuel
     → read_within fuel end (state opened c) text ≡ Err f
-wrong_read end outer around c text f (Here _ _ _ _ d front rest _ inside next) opened here named fuel enough =
+wrong_read end outer around c text f (Here _ _ _ d front rest _ inside next) opened here named fuel enough =
     let on = goes end outer c front d inside opened here rest in
     let left = fuel - on.rounds - 1 in
     on.goes fuel (suc left) (omega (arith, on.within, enough, length-append front rest))
     ∙ ap (λ (n : Result Next DocFault). n >>= λ y. with_round (λ s t. read_within left end s t) y)
     (next_stops end opened outer around d rest f next here named)
-wrong_read end outer around c text f (Deeper _ _ inner _ _ d e front before tag rest name pairs _ inside filler is begins wrong) opened here
+wrong_read end outer around c text f (Deeper _ inner _ _ d e front before tag rest name pairs _ inside filler is begins wrong) opened here
     named fuel enough =
     let whole = before ++ ((60 ∷ tag) ++ rest) in
     let on = goes end outer c front d inside opened here whole in

@@ -53,12 +53,12 @@ text_wrong e before a f new untimed h =
         let same : fault_at a.at kinds.BadAttribute ≡ f = cc in
         let P : DocFault → Type 0 = λ g. WrongAttribute e.tag (bare e) before a g in
         let Q : Bool → Type 0 = λ b. SpellsValue b is.front is.text in
-        subst P same (RawMark e.tag (bare e) before a is.front is.rest is.text new untimed is.strict is.whole (subst Q is.strict is.spelt))
+        subst P same (RawMark is.front is.rest is.text new untimed is.strict is.whole (subst Q is.strict is.spelt))
     by (Err (value.BadEntity amp)) is k =
         let same : fault_at amp kinds.BadEntity ≡ f = cc in
         let P : DocFault → Type 0 = λ g. WrongAttribute e.tag (bare e) before a g in
         subst P (ap (λ n. fault_at n kinds.BadEntity) (sym is.place) ∙ same)
-        (NoEntity e.tag (bare e) before a is.front is.rest is.text new untimed is.whole is.spelt is.none)
+        (NoEntity is.front is.rest is.text new untimed is.whole is.spelt is.none)
 
 judged : (e : Tagged) (before : Pairs) (a : Written) (text : Text) (f : DocFault) (next : Pairs) (found : Option DocKind) →
     has before a.name ≡ false → is_timed e.kind a.name ≡ false
@@ -69,7 +69,7 @@ judged e before a text f next (Some k) new untimed read is h =
     let said = text_is_said e a text read in
     let same : fault_at (fault_offset e.tag a.at k) k ≡ f = cc in
     let P : DocFault → Type 0 = λ g. WrongAttribute e.tag (bare e) before a g in
-    subst P same (Refused e.tag (bare e) before a said.decoded k new untimed said.spelt
+    subst P same (Refused said.decoded k new untimed said.spelt
     (sym (value_bare e a.name (text_with_globals e said.decoded)) ∙ ap (value_fault e a.name) (sym said.text_is) ∙ is))
 
 attribute_wrong : (e : Tagged) (before : Pairs) (a : Written) (f : DocFault) → attribute_read e before a ≡ Err f →
@@ -92,9 +92,9 @@ attribute_wrong e before a f h = by (has before a.name) (is_timed e.kind a.name)
         (cond t (fault a.at kinds.TimeAttribute)
         (text_read e a >>= λ text. unless_fault e.tag a.at (value_fault e a.name text) (before ++ (a.name, text) ∷ []))) ≡ stopped f → P f
     by true t twice timed k =
-        let same : fault_at a.at kinds.BadAttribute ≡ f = cc in subst P same (Doubled e.tag (bare e) before a twice)
+        let same : fault_at a.at kinds.BadAttribute ≡ f = cc in subst P same (Doubled twice)
     by false true new timed k =
-        let same : fault_at a.at kinds.TimeAttribute ≡ f = cc in subst P same (Timed e.tag (bare e) before a new timed)
+        let same : fault_at a.at kinds.TimeAttribute ≡ f = cc in subst P same (Timed new timed)
     by false false new untimed k =
         text_or new untimed
         (bind_err (text_read e a) (λ text. unless_fault e.tag a.at (value_fault e a.name text) (before ++ (a.name, text) ∷ [])) f k)
@@ -154,7 +154,7 @@ incomplete : (at : ℕ) (outer : Level) (c : Content) (name : Text) (body : Body
 incomplete at outer c name body k texts f (Some place) known say is h =
     let same : fault_at place kinds.BadAttribute ≡ f = cc in
     let P : DocFault → Type 0 = λ g. WrongElement at outer c name body g in
-    subst P same (Malformed at outer c name body k texts place known say is)
+    subst P same (Malformed k texts place known say is)
 incomplete at outer c name body k texts f None known say is h = by (has_needed k texts) refl h
   where
     by : (t : Bool) → has_needed k texts ≡ t → cond t (Ok texts) (fault at kinds.BadAttribute) ≡ stopped {X = Pairs} f →
@@ -163,7 +163,7 @@ incomplete at outer c name body k texts f None known say is h = by (has_needed k
     by false needed i =
         let same : fault_at at kinds.BadAttribute ≡ f = cc in
         let P : DocFault → Type 0 = λ g. WrongElement at outer c name body g in
-        subst P same (Missing at outer c name body k texts known say is needed)
+        subst P same (Missing k texts known say is needed)
 
 pub element_wrong : (at : ℕ) (outer : Level) (c : Content) (name : Text) (body : BodyText) (f : DocFault) →
     element_read at name body outer c ≡ Err f → WrongElement at outer c name body f
@@ -196,7 +196,7 @@ element_wrong at outer c name body f h =
         × (complete (tag_at at k c body) body.malformed texts ≡ Err f)) → P f
     third k known (inl stops) =
         let w = wrong_among (tag_at at k c body) [] body.attrs f stops in
-        InAttribute at outer c name body k w.before w.behind w.a w.texts f known w.whole w.say w.wrong
+        InAttribute k w.before w.behind w.a w.texts f known w.whole w.say w.wrong
     third k known (inr (texts, read, i)) =
         incomplete at outer c name body k texts f body.malformed known (all_are_said (tag_at at k c body) [] body.attrs texts read) refl i
 
@@ -210,7 +210,7 @@ element_wrong at outer c name body f h =
         let stop = place_read at (element_begun k texts c) f i in
         let S : Pairs → Type 0 = λ t. Say (tag_of k c.globals.pairs (map pair_of body.attrs)) [] (map pair_of body.attrs) t in
         let N : Pairs → Type 0 = λ t. has_needed k t ≡ true in
-        subst P stop.2 (Unbegun at outer c name body k texts stop.0 known
+        subst P stop.2 (Unbegun k texts stop.0 known
         (subst S whole.same (all_are_said (tag_at at k c body) [] body.attrs went.0 went.1)) whole.none
         (subst N whole.same whole.needed) stop.1)
 
@@ -226,7 +226,7 @@ element_wrong at outer c name body f h =
         ⊎ ((k : Kind) × (or_at at (kind_in outer c.done name) ≡ Ok k) × (judged_at k ≡ Err f)) → P f
     first (inl stops) =
         let stop = place_read at (kind_in outer c.done name) f stops in
-        subst P stop.2 (Misplaced at outer c name body stop.0 stop.1)
+        subst P stop.2 (Misplaced stop.0 stop.1)
     first (inr (k, read, i)) =
         second k (known_at k read (kind_in outer c.done name) refl)
         (bind_err (pairs_at k) (λ pairs. or_at at (element_begun k pairs c)) f i)
@@ -236,21 +236,21 @@ element_wrong at outer c name body f h =
 attribute_stops : (e : Tagged) (before : Pairs) (a : Written) (at : ℕ) (loose : Tagged) (f : DocFault) → WrongAttribute at loose before a f →
     at ≡ e.tag → loose ≡ bare e → attribute_read e before a ≡ Err f
 unfolding attribute_read text_read value_read
-attribute_stops e before a at loose f (Doubled _ _ _ _ twice) here same = rw twice refl
-attribute_stops e before a at loose f (Timed _ _ _ _ new timed) here same =
+attribute_stops e before a at loose f (Doubled twice) here same = rw twice refl
+attribute_stops e before a at loose f (Timed new timed) here same =
     let is : is_timed e.kind a.name ≡ true = ap (λ (t : Tagged). is_timed t.kind a.name) (sym same) ∙ timed in
     rw (new, is) refl
-attribute_stops e before a at loose f (RawMark _ _ _ _ front rest text new untimed strict whole spelt) here same =
+attribute_stops e before a at loose f (RawMark front rest text new untimed strict whole spelt) here same =
     let fine : is_timed e.kind a.name ≡ false = ap (λ (t : Tagged). is_timed t.kind a.name) (sym same) ∙ untimed in
     let own : is_foreign e.kind ≡ false = ap (λ (t : Tagged). is_foreign t.kind) (sym same) ∙ strict in
     let stops = raw_stops a.end a.value front rest text whole spelt in
     rw (new, fine, own, stops) refl
-attribute_stops e before a at loose f (NoEntity _ _ _ _ front rest text new untimed whole spelt none) here same =
+attribute_stops e before a at loose f (NoEntity front rest text new untimed whole spelt none) here same =
     let fine : is_timed e.kind a.name ≡ false = ap (λ (t : Tagged). is_timed t.kind a.name) (sym same) ∙ untimed in
     let Q : Tagged → Type 0 = λ t. SpellsValue (is_foreign t.kind) front text in
     let stops = entity_stops (is_foreign e.kind) a.end a.value front rest text whole (subst Q same spelt) none in
     rw (new, fine, stops) refl
-attribute_stops e before a at loose f (Refused _ _ _ _ decoded k new untimed spelt refused) here same =
+attribute_stops e before a at loose f (Refused decoded k new untimed spelt refused) here same =
     let fine : is_timed e.kind a.name ≡ false = ap (λ (t : Tagged). is_timed t.kind a.name) (sym same) ∙ untimed in
     let Q : Tagged → Type 0 = λ t. SpellsValue (is_foreign t.kind) a.value decoded in
     let R : Tagged → Type 0 = λ t. value_fault t a.name (text_with_globals t decoded) ≡ Some k in
@@ -298,8 +298,8 @@ element_stops at outer c name body f wrong = by f wrong
         (element_begun k pairs c)) (all_said (tag_at at k c body) [] body.attrs texts say)
 
     by : (g : DocFault) → WrongElement at outer c name body g → (or_at at (kind_in outer c.done name) >>= judged_at) ≡ Err g
-    by g (Misplaced _ _ _ _ _ k none) = ap (λ (r : Result Kind DocKind). or_at at r >>= judged_at) none
-    by g (InAttribute _ _ _ _ _ k before behind a texts _ known whole say one) =
+    by g (Misplaced k none) = ap (λ (r : Result Kind DocKind). or_at at r >>= judged_at) none
+    by g (InAttribute k before behind a texts _ known whole say one) =
         let e = tag_at at k c body in
         let stops : attributes_read e [] body.attrs ≡ Err g =
         ap (attributes_read e []) whole ∙ front_said e [] before (a ∷ behind) texts say
@@ -308,11 +308,11 @@ element_stops at outer c name body f wrong = by f wrong
         known_at k known
         ∙ ap (λ (r : Result Pairs DocFault). (r >>= λ pairs. complete e body.malformed pairs) >>= λ pairs. or_at at
         (element_begun k pairs c)) stops
-    by g (Malformed _ _ _ _ _ k texts place known say is) = known_at k known ∙ said_at k texts (Some place) say is
-    by g (Missing _ _ _ _ _ k texts known say is needed) =
+    by g (Malformed k texts place known say is) = known_at k known ∙ said_at k texts (Some place) say is
+    by g (Missing k texts known say is needed) =
         known_at k known ∙ said_at k texts None say is
         ∙ ap (λ t. cond t (Ok texts) (fault at kinds.BadAttribute) >>= λ pairs. or_at at (element_begun k pairs c)) needed
-    by g (Unbegun _ _ _ _ _ k texts d known say is needed none) =
+    by g (Unbegun k texts d known say is needed none) =
         known_at k known ∙ said_at k texts None say is
         ∙ ap (λ t. cond t (Ok texts) (fault at kinds.BadAttribute) >>= λ pairs. or_at at (element_begun k pairs c)) needed
         ∙ ap (λ (r : Result (Level × Content) DocKind). or_at at r) none

@@ -39,11 +39,11 @@ pub data IsTail : (bytes : List ℕ) (malformed : Option (List ℕ)) (ending : E
 -- ---- markup
 
 -- markup from behind its `<`: a comment, an end tag where an element is open around it, or the tag of an element
-pub data IsMark : (around : Option Text) (bytes : List ℕ) → Type 0 where
-  AComment : (around : Option Text) (bytes : List ℕ) → IsComment bytes → IsMark around bytes
-  AnEnd : (outer name bytes : List ℕ) → IsEndTag bytes name → IsMark (Some outer) bytes
-  ATag : (around : Option Text) (name attributes tail : List ℕ) (pairs : List Pair) (malformed : Option (List ℕ)) (ending : Ending)
-      → IsName name → Stops is_name_byte (attributes ++ tail) → AreAttributes attributes pairs → IsTail tail malformed ending
+pub data IsMark (around : Option Text) : (bytes : List ℕ) → Type 0 where
+  AComment : (bytes : List ℕ) → IsComment bytes → IsMark around bytes
+  AnEnd : (name bytes : List ℕ) → around ≢ None → IsEndTag bytes name → IsMark around bytes
+  ATag : (name attributes tail : List ℕ) (pairs : List Pair) (malformed : Option (List ℕ)) (ending : Ending) → IsName name
+      → Stops is_name_byte (attributes ++ tail) → AreAttributes attributes pairs → IsTail tail malformed ending
       → IsMark around (name ++ (attributes ++ tail))
 
 -- markup stands in front

@@ -4,6 +4,7 @@ use Rattle.std.proofs.Common.{◌⊎◌, inl, inr, option_map, refl, sym, ap, �
 use Rattle.std.specs.Option.{option_and_then}
 use Rattle.std.proofs.lemmas.Bool.{both_ways, ne_eqb, cases_eq}
 use Rattle.std.proofs.lemmas.Option.{none-some, same_Some}
+use mathlib.Core.List.{IsPrefix}
 use Rattle.fs_text.specs.Texts.{Text}
 use Rattle.fs_doc.specs.Reading.{Configuration}
 use Rattle.fs_cmd.specs.Commands.{command_of}
@@ -12,6 +13,7 @@ use Rattle.fs_seats.specs.Seats.{no_seats, first_seat}
 use Rattle.fs_seats.specs.Rows.{has_number, row_of}
 use Rattle.fs_seats.proofs.RowLemmas.{row_none}
 use Rattle.fs_book.specs.Opened.{NoneNames, Quiet}
+use Rattle.fs_book.proofs.Lists.{prefix_self}
 use Rattle.fs_state.specs.declared.conn.Conn.{Conn}
 use Rattle.fs_state.specs.declared.conn.Phase.{Phase}
 use Rattle.fs_state.specs.declared.conn.Phase.TheVariants as phase
@@ -23,6 +25,7 @@ use Rattle.fs_machine.specs.declared.entry.Act.{Act}
 use Rattle.fs_machine.specs.declared.entry.Act.TheVariants.{Arrive, Command, Take, Close, Dialed, Work, Job, Halt}
 use Rattle.fs_machine.specs.declared.entry.Closing.TheVariants.{EndOfInput, Sent, Failed}
 use Rattle.fs_machine.specs.declared.refusal.Refusal.TheVariants as refusal
+use Rattle.fs_machine.specs.declared.reply.Reply.{Reply}
 use Rattle.fs_machine.specs.Connections.{phase_of, phase_at, conn_changed, conn_changed_from, parted}
 use Rattle.fs_machine.specs.Questions.{parting_of, parting_at, owed_to}
 use Rattle.fs_machine.specs.Step.{reads, is_closed, busy, refusal_of, step}
@@ -44,10 +47,10 @@ use Rattle.fs_machine.proofs.LeftLemmas.{NoneLeft, run_none_left, empty_none_lef
 use Rattle.fs_machine.proofs.PartLemmas.{take_keeps, command_parts}
 use Rattle.fs_machine.proofs.ConcernLemmas.{concerns}
 use Rattle.fs_machine.proofs.QuietLemmas.{commands_append, journal_front, come_on, others_of, does}
-use Rattle.fs_conn.specs.Owning.{entry_at}
+use Rattle.fs_conn.specs.Owning.{entry_at, Entered}
 use Rattle.fs_conn.specs.Ends.{PartsFor}
 use Rattle.fs_conn.specs.Talks.{PartedIn, StoppedIn}
-use Rattle.fs_conn.specs.Partings.{PartedAt, PartedBy, StoppedBy, MadeToStop}
+use Rattle.fs_conn.specs.Partings.{PartedAt, PartedBy, PartedByInput, StoppedBy, MadeToStop}
 use Rattle.fs_conn.proofs.PartLemmas.{reason}
 use Rattle.fs_conn.proofs.ArriveLemmas.{open_come}
 
@@ -69,6 +72,31 @@ is_its : (found : Option ℕ) (conn : ℕ) → (found ≡ Some conn) ⊎ (found 
 is_its None conn = inr (λ same. none-some conn same)
 is_its (Some number) conn =
     elim (cases_eq number conn) [ inl same ↦ inl (ap Some same) | inr differ ↦ inr (λ same. differ (same_Some number conn same)) ]
+
+-- ---- two entries of one list
+
+-- both are the same one, or one stands before the other
+abbrev EitherFirst : List Entry → List Entry → Entry → Entry → Type 0
+EitherFirst front other_front entry other =
+    (front ≡ other_front) × (entry ≡ other)
+    ⊎ (IsPrefix (front ++ entry ∷ []) other_front ⊎ IsPrefix (other_front ++ other ∷ []) front)
+
+either_later : (first : Entry) (front other_front : List Entry) (entry other : Entry) → EitherFirst front other_front entry other →
+    EitherFirst (first ∷ front) (first ∷ other_front) entry other
+either_later first front other_front entry other (inl same) = inl (ap (λ entries. first ∷ entries) same.0, same.1)
+either_later first front other_front entry other (inr (inl pre)) = inr (inl (pre.0, ap (λ entries. first ∷ entries) pre.1))
+either_later first front other_front entry other (inr (inr pre)) = inr (inr (pre.0, ap (λ entries. first ∷ entries) pre.1))
+
+either_first : (front other_front : List Entry) (entry other : Entry) (rest other_rest : List Entry) →
+    front ++ entry ∷ rest ≡ other_front ++ other ∷ other_rest → EitherFirst front other_front entry other
+either_first [] [] entry other rest other_rest same = inl (refl, cc same)
+either_first [] (first ∷ other_front) entry other rest other_rest same = inr (inl (other_front, cc same))
+either_first (first ∷ front) [] entry other rest other_rest same = inr (inr (front, cc same))
+either_first (first ∷ front) (second ∷ other_front) entry other rest other_rest same =
+    let heads : first ≡ second = cc same in
+    subst (λ x. EitherFirst (first ∷ front) (x ∷ other_front) entry other) heads
+    (either_later first front other_front entry other
+    (either_first front other_front entry other rest other_rest (cc same)))
 
 -- ---- an empty switch
 
@@ -243,12 +271,16 @@ module _ (config : Configuration) (conn : ℕ) where
   -- it gives no command any more, and has parted for nothing else
   record OverAll (front rest : List Entry) : Type 0 where
     silent : commands_of conn rest ≡ []
+    come : HasCome conn (at (front ++ rest))
+    still : reads (phase_at (at (front ++ rest)) conn) ≡ false
     parting : (why : Parting) → parting_at (at (front ++ rest)) conn ≡ Some why → parting_at (at front) conn ≡ Some why
 
   over_all : (front rest : List Entry) → IsJournal config (front ++ rest) → HasCome conn (at front) →
       reads (phase_at (at front) conn) ≡ false → OverAll front rest
   over_all front [] journal come still = record {
     silent = refl;
+    come = subst (λ log. HasCome conn (at log)) (sym (append-nil front)) come;
+    still = subst (λ log. reads (phase_at (at log) conn) ≡ false) (sym (append-nil front)) still;
     parting = λ why is. subst (λ log. parting_at (at log) conn ≡ Some why) (append-nil front) is;
   }
   over_all front (entry ∷ rest) journal come still =
@@ -262,6 +294,8 @@ module _ (config : Configuration) (conn : ℕ) where
       (come_on conn (at front) entry (orderly_at front (journal_front config front (entry ∷ []) first)) (accepted front entry first) come) in
       let more = over_all (front ++ entry ∷ []) rest all later one.still in record {
         silent = ap (λ blocks. blocks ++ commands_of conn rest) one.silent ∙ more.silent;
+        come = subst (λ log. HasCome conn (at log)) joined more.come;
+        still = subst (λ log. reads (phase_at (at log) conn) ≡ false) joined more.still;
         parting = λ why is. one.parting why (more.parting why
             (subst (λ log. parting_at (at log) conn ≡ Some why) (sym joined) is));
       }
@@ -317,6 +351,7 @@ module _ (config : Configuration) (conn : ℕ) where
     reading : reads (phase_at (at front) conn) ≡ true
     command : is_its_own why ≡ true → why ≢ parting.EndOfInput →
         (block : Text) × (entry.act ≡ Command conn block) × PartsFor why config.settings.password (command_of block)
+    input : why ≡ parting.EndOfInput → entry.act ≡ Close conn EndOfInput
 
   -- what does not change it does not part it
   parts_not : (front : List Entry) (entry : Entry) (why : Parting) → parting_at (at front) conn ≡ None →
@@ -333,15 +368,18 @@ module _ (config : Configuration) (conn : ℕ) where
       let reading = reads_commands conn moment giver block (at front) same (accepted front entry journal) in
       let went : at (front ++ entry ∷ []) ≡ (step (at front) entry).state = run_more (empty config) front entry in
       let parts : parting_at (step (at front) entry).state conn ≡ Some why =
-      sym (ap (λ (s : Switch). parting_at s conn) went) ∙ is in record {
+      sym (ap (λ (s : Switch). parting_at s conn) went) ∙ is in
+      let given : parting_at (step (at front) (entry_at moment (Command conn block))).state conn ≡ Some why =
+      subst (λ n. parting_at (step (at front) (entry_at moment (Command n block))).state conn ≡ Some why) same parts in
+      let made = command_parts conn moment block (at front) reading none in record {
         reading = reading;
         command = λ own other. (
           block,
           ap (λ n. Command n block) same,
           reason conn why config block (at front) (step (at front) (entry_at moment (Command conn block))).state
-              (settings_run (empty config) front) (command_parts conn moment block (at front) reading none)
-              (subst (λ n. parting_at (step (at front) (entry_at moment (Command n block))).state conn ≡ Some why) same parts) own,
+              (settings_run (empty config) front) made given own,
         );
+        input = λ ended. absurd (made.hears (given ∙ ap Some ended));
       }
 
   parts_input : (front : List Entry) (moment closer : ℕ) (why : Parting) →
@@ -359,6 +397,7 @@ module _ (config : Configuration) (conn : ℕ) where
         command = λ own other.
             absurd (other (same_Some why parting.EndOfInput
             (sym is ∙ (ap (λ (s : Switch). parting_at s conn) went ∙ ended))));
+        input = λ by_input. ap (λ n. Close n EndOfInput) same;
       }
 
   -- what closes it does not part it
@@ -397,14 +436,15 @@ module _ (config : Configuration) (conn : ℕ) where
       by : KeepsPhase conn (at front) (step (at front) entry).state ⊎ IsParted conn (at front) (step (at front) entry).state →
           Parts front entry why
       by (inl keeps) = absurd (parts_not front entry why none is keeps)
-      by (inr parts) = record {
-        reading = parts.read;
-        command = λ own other.
-            let went : at (front ++ entry ∷ []) ≡ (step (at front) entry).state = run_more (empty config) front entry in
-            let same : parts.why ≡ why =
-            same_Some parts.why why (sym parts.parting ∙ (sym (ap (λ (s : Switch). parting_at s conn) went) ∙ is)) in
-            absurd (both_ways (is_its_own why) (sym (ap is_its_own same) ∙ parts.others) own);
-      }
+      by (inr parts) =
+          let went : at (front ++ entry ∷ []) ≡ (step (at front) entry).state = run_more (empty config) front entry in
+          let same : parts.why ≡ why =
+          same_Some parts.why why (sym parts.parting ∙ (sym (ap (λ (s : Switch). parting_at s conn) went) ∙ is)) in
+          let others : is_its_own why ≡ false = sym (ap is_its_own same) ∙ parts.others in record {
+            reading = parts.read;
+            command = λ own other. absurd (both_ways (is_its_own why) others own);
+            input = λ ended. absurd (both_ways (is_its_own why) others (ap is_its_own ended));
+          }
 
   -- so it does not part by that
   parts_come : (front : List Entry) (entry : Entry) (why : Parting) → IsJournal config (front ++ entry ∷ []) →
@@ -468,10 +508,51 @@ module _ (config : Configuration) (conn : ℕ) where
       subst (λ entries. PartedAt config conn entries why) p.front.1
       (parted_in p.before p.front.0 why (subst (IsJournal config) (sym p.front.1) journal) p.parted)
 
+  -- by the end of its input
+  pub parted_by_input : (log : List Entry) → IsJournal config log → PartedIn config conn log parting.EndOfInput →
+      PartedByInput config conn log
+  parted_by_input log journal is =
+      let p = at_front log parting.EndOfInput journal is in record {
+        at = p;
+        ends =
+            (parts p.before p.entry parting.EndOfInput (journal_at log parting.EndOfInput journal p) p.unparted p.parted).input refl;
+      }
+
   -- it was made to stop
   pub made_to_stop : (log : List Entry) → IsJournal config log → StoppedIn config conn log → MadeToStop config conn log
   made_to_stop log journal (inl p) = inl (stopped_by_end log journal (at_front log parting.Stopped journal p))
   made_to_stop log journal (inr p) = inr (at_front log parting.ChannelLeft journal p)
+
+  -- ---- it parts once
+
+  -- it had parted and reads no further command, so it does not part again
+  not_again : (log : List Entry) (why other : Parting) → IsJournal config log → (p : PartedAt config conn log why) →
+      (q : PartedAt config conn log other) → IsPrefix (p.before ++ p.entry ∷ []) q.before → ⊥
+  not_again log why other journal p q pre =
+      let front = p.before ++ p.entry ∷ [] in
+      let here = journal_at log other journal q in
+      let over =
+      over_parted front pre.0 why
+      (subst (IsJournal config) (sym pre.1) (journal_front config q.before (q.entry ∷ []) here)) p.parted in
+      let one =
+      over_one q.before q.entry here (subst (λ entries. HasCome conn (at entries)) pre.1 over.come)
+      (subst (λ entries. reads (phase_at (at entries) conn) ≡ false) pre.1 over.still) in
+      none-some other (sym q.unparted ∙ one.parting other q.parted)
+
+  pub parts_once : (log : List Entry) (why other : Parting) → IsJournal config log → (p : PartedAt config conn log why) →
+      (q : PartedAt config conn log other) → (p.before ≡ q.before) × (p.entry ≡ q.entry) × (why ≡ other)
+  parts_once log why other journal p q =
+      by (either_first p.before q.before p.entry q.entry p.behind q.behind (sym p.split ∙ q.split))
+    where
+      by : EitherFirst p.before q.before p.entry q.entry → (p.before ≡ q.before) × (p.entry ≡ q.entry) × (why ≡ other)
+      by (inl same) =
+          let front : p.before ++ p.entry ∷ [] ≡ q.before ++ q.entry ∷ [] = cc (same.0, same.1) in (
+            same.0,
+            same.1,
+            same_Some why other (sym p.parted ∙ (ap (λ entries. parting_at (at entries) conn) front ∙ q.parted)),
+          )
+      by (inr (inl pre)) = absurd (not_again log why other journal p q pre)
+      by (inr (inr pre)) = absurd (not_again log other why journal q p pre)
 
   -- ---- a journal that goes on without naming it
 
@@ -521,6 +602,9 @@ module _ (config : Configuration) (conn : ℕ) where
     is = p.is;
   }
 
+  pub input_up : (log log' : List Entry) → Quiet names conn log log' → PartedByInput config conn log → PartedByInput config conn log'
+  input_up log log' quiet p = record { at = at_up log log' parting.EndOfInput quiet p.at; ends = p.ends }
+
   pub stop_up : (log log' : List Entry) → Quiet names conn log log' → MadeToStop config conn log → MadeToStop config conn log'
   stop_up log log' quiet (inl p) = inl (record {
     at = at_up log log' parting.Stopped quiet p.at;
@@ -528,3 +612,19 @@ module _ (config : Configuration) (conn : ℕ) where
     stopped = p.stopped;
   })
   stop_up log log' quiet (inr p) = inr (at_up log log' parting.ChannelLeft quiet p)
+
+-- the end of its input was entered, and it has parted for that
+pub input_parted : (may : ℕ → Type 0) (config : Configuration) (conn : ℕ) (log log' : List Entry) (mine mine' : List ℕ)
+    (answer : Reply) → Entered may config conn log mine log' mine' (Close conn EndOfInput) answer
+    → PartedIn config conn log' parting.EndOfInput
+input_parted may config conn log log' mine mine' answer n =
+    let entry = entry_at n.moment (Close conn EndOfInput) in
+    let s : Switch = state_after config n.before in
+    let parts : parting_at (step s entry).state conn ≡ Some parting.EndOfInput =
+    input_parts conn n.moment s (reads_input conn n.moment conn s refl n.answers.defined) in record {
+      before = log';
+      front = prefix_self log';
+      parted =
+          subst (λ entries. parting_at (state_after config entries) conn ≡ Some parting.EndOfInput) n.sees
+          (ap (λ (t : Switch). parting_at t conn) (run_more (empty config) n.before entry) ∙ parts);
+    }

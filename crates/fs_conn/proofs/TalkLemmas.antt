@@ -493,10 +493,18 @@ module _ (may : ℕ → Type 0) (config : Configuration) (conn : ℕ) where
           subst (λ (x : End). PartedEnd config conn log x) same (inr (record { before = log; front = prefix_self log; parted = at }))
       by (Some partings.EndOfInput) at e = absurd (cc)
 
-  pub hangs_closed : (from now : Point) (rest : List ℕ) (end : End) (result : Result End Stop) →
-      Closes may config conn end from now rest result → Hangs may config conn end from now rest result
-  hangs_closed from now rest end (Ok e) c = (inl c.0, c.1)
-  hangs_closed from now rest end (Err stop) c = c
+  -- its input had ended, and it was waited out
+  pub hangs_closed : (from : Point) (log log' : List Entry) (mine mine' : List ℕ) (in1 in2 : Input) (out1 out2 : Output)
+      (rest : List ℕ) (end : End) (result : Result End Stop) → PartedIn config conn log partings.EndOfInput
+      → ((from : Point) (rest : List ℕ) → Holds may config conn from (point log mine in1 out1) rest
+      → Closes may config conn end from (point log' mine' in2 out2) rest result)
+      → Holds may config conn from (point log mine in1 out1) rest
+      → Hangs may config conn end from (point log' mine' in2 out2) rest result
+  hangs_closed from log log' mine mine' in1 in2 out1 out2 rest end (Ok e) parted closes h =
+      let c = closes from rest h in
+      let r = closes (point log mine from.input from.output) rest (rebased from log mine in1 out1 rest h) in
+      (inl (c.0, parted_up config conn log log' partings.EndOfInput r.1.base.later parted), c.1)
+  hangs_closed from log log' mine mine' in1 in2 out1 out2 rest end (Err stop) parted closes h = closes from rest h
 
   pub hangs_departed : (from now : Point) (rest : List ℕ) (end : End) (result : Result End Stop) →
       Departs may config conn from now rest result → Hangs may config conn end from now rest result

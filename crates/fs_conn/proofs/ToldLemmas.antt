@@ -1,5 +1,5 @@
 -- What rounds of a conversation come to, how it begins, and what is told of it at its end.
-use Rattle.std.proofs.Common.{◌≡◌, ◌⊎◌, inl, inr, ℕ, true, false, if◌then◌else◌, List, [], ◌∷◌, ◌++◌, length, drop, Some}
+use Rattle.std.proofs.Common.{◌≡◌, ◌≢◌, ◌⊎◌, inl, inr, ℕ, true, false, if◌then◌else◌, List, [], ◌∷◌, ◌++◌, length, drop, Some}
 use Rattle.std.proofs.Common.{Result, Ok, Err, refl, ap, sym, subst, ◌∙◌, append_assoc, append-nil}
 use Rattle.std.proofs.lemmas.Bool.{eq-eqb}
 use Rattle.std.proofs.lemmas.List.Folds.{concat-append}
@@ -15,6 +15,7 @@ use Rattle.fs_frame.specs.declared.fault.Fault.{Fault}
 use Rattle.fs_frame.proofs.BlockLaws.{AllByRecursion-append, blocks_of-append, rest_of-append}
 use Rattle.fs_book.specs.Opened.{NoneNames, Quiet}
 use Rattle.fs_book.proofs.Lists.{prefix_self, prefix_trans}
+use Rattle.fs_state.specs.declared.conn.Parting.{Parting}
 use Rattle.fs_state.specs.declared.conn.Parting.TheVariants as way
 use Rattle.fs_machine.specs.declared.entry.Entry.{Entry}
 use Rattle.fs_machine.specs.declared.entry.Act.TheVariants.{Command}
@@ -31,10 +32,11 @@ use Rattle.fs_conn.specs.declared.stop.Stop.TheVariants as stops
 use Rattle.fs_conn.specs.declared.round.Round.{Round}
 use Rattle.fs_conn.specs.declared.round.Round.TheVariants.{GoOn, Done}
 use Rattle.fs_conn.specs.Owning.{OwnsConn, entry_at, Entered}
-use Rattle.fs_conn.specs.Talks.{Point, point, bytes_given, FrontWritten, PartedEnd, IfTried, LacksBlock, tried_of}
+use Rattle.fs_conn.specs.Partings.{PartedAt, EndsAs}
+use Rattle.fs_conn.specs.Talks.{Point, point, bytes_given, FrontWritten, PartedIn, PartedEnd, HungUp, InputCause, IfTried, LacksBlock, tried_of}
 use Rattle.fs_conn.specs.Talks.{Base, Holds, HasStopped, OverCause, Over, Rounds, Handles, Departed, Hung, ends_sent, EndWrote, EndCause}
-use Rattle.fs_conn.specs.Talks.{Told, Talks}
-use Rattle.fs_conn.proofs.PartingLemmas.{at_front, parted_by_command, made_to_stop, by_up, stop_up}
+use Rattle.fs_conn.specs.Talks.{Told, Talks, IsCutOff, is_faultless}
+use Rattle.fs_conn.proofs.PartingLemmas.{at_front, parted_by_command, parted_by_input, made_to_stop, by_up, input_up, stop_up, parts_once}
 use Rattle.fs_conn.proofs.TalkLemmas.{or_none, full_up, front_longer, holds_quiet, stops_holds, idle_before, gains_push}
 
 -- bytes that have no block are all behind their blocks
@@ -159,13 +161,23 @@ module _ (may : ℕ → Type 0) (config : Configuration) (conn : ℕ) where
       record { rest = b ++ rest; finishes = h.1; cause = departed_cause from now (b ++ rest) e h.0 }
   turns_handled from now b rest (Err stop) same h = (b ++ rest, h)
 
-  hung_over : (from now : Point) (rest : List ℕ) (e end : End) → (e ≡ end) ⊎ PartedEnd config conn now.log e →
-      OverCause may config conn end from now rest → OverCause may config conn e from now rest
-  hung_over from now rest e end (inl same) cause = subst (λ (x : End). OverCause may config conn x from now rest) (sym same) cause
+  -- it had parted for the end of its input
+  input_over : (from now : Point) (rest : List ℕ) (end : End) → PartedIn config conn now.log way.EndOfInput →
+      InputCause end from now rest → OverCause may config conn end from now rest
+  input_over from now rest ends.Eof parted cause = (parted, cause)
+  input_over from now rest ends.ReadFault parted cause = (parted, cause)
+  input_over from now rest (ends.TooLong len) parted cause = (parted, cause)
+  input_over from now rest ends.BadLength parted cause = (parted, cause)
+  input_over from now rest _ parted cause = absurd cause
+
+  hung_over : (from now : Point) (rest : List ℕ) (e end : End) → HungUp config conn now.log end e → InputCause end from now rest →
+      OverCause may config conn e from now rest
+  hung_over from now rest e end (inl hung) cause =
+      subst (λ (x : End). OverCause may config conn x from now rest) (sym hung.0) (input_over from now rest end hung.1 cause)
   hung_over from now rest e end (inr parted) cause = departed_cause from now rest e parted
 
   pub turns_hung : (from now : Point) (rest left : List ℕ) (end : End) (result : Result Round Stop) →
-      OverCause may config conn end from now rest → Hung may config conn end from now rest result
+      InputCause end from now rest → Hung may config conn end from now rest result
       → Rounds may config conn from now left result
   turns_hung from now rest left end (Ok GoOn) cause h = absurd h
   turns_hung from now rest left end (Ok (Done e)) cause h =
@@ -208,14 +220,14 @@ module _ (may : ℕ → Type 0) (config : Configuration) (conn : ℕ) where
   over_sent from now rest ends.ReadFault cause = refl
   over_sent from now rest (ends.TooLong len) cause = refl
   over_sent from now rest ends.BadLength cause = refl
-  over_sent from now rest ends.WriteFault cause = absurd cause
-  over_sent from now rest (ends.JournalFull cost limit) cause = absurd cause
-  over_sent from now rest ends.Memory cause = absurd cause
-  over_sent from now rest (ends.Runaway count) cause = absurd cause
+  over_sent from now rest ends.WriteFault cause = absurd cause.1
+  over_sent from now rest (ends.JournalFull cost limit) cause = absurd cause.1
+  over_sent from now rest ends.Memory cause = absurd cause.1
+  over_sent from now rest (ends.Runaway count) cause = absurd cause.1
 
   over_wrote : (from now : Point) (rest : List ℕ) (end : End) (bytes : List ℕ) → OverCause may config conn end from now rest →
       FrontWritten from.output now.output bytes → EndWrote end from.output now.output bytes
-  over_wrote from now rest ends.WriteFault bytes cause w = absurd cause
+  over_wrote from now rest ends.WriteFault bytes cause w = absurd cause.1
   over_wrote from now rest _ bytes cause w = w
 
   over_cause : (from now : Point) (rest : List ℕ) (end : End) → IsJournal config now.log → AllByRecursion IsBlock (commands_of conn now.log) →
@@ -226,14 +238,22 @@ module _ (may : ℕ → Type 0) (config : Configuration) (conn : ℕ) where
   over_cause from now rest ends.AuthRefused run are cause =
       parted_by_command config conn now.log way.AuthRefused run refl (λ same. cc) (at_front config conn now.log way.AuthRefused run cause)
   over_cause from now rest ends.Stopped run are cause = made_to_stop config conn now.log run cause
-  over_cause from now rest ends.Eof run are cause = cause
-  over_cause from now rest ends.ReadFault run are cause = cause
-  over_cause from now rest (ends.TooLong len) run are cause = (cause.0, behind (commands_of conn now.log) rest _ are cause.0 cause.1)
-  over_cause from now rest ends.BadLength run are cause = (cause.0, behind (commands_of conn now.log) rest _ are cause.0 cause.1)
-  over_cause from now rest ends.WriteFault run are cause = absurd cause
-  over_cause from now rest (ends.JournalFull cost limit) run are cause = absurd cause
-  over_cause from now rest ends.Memory run are cause = absurd cause
-  over_cause from now rest (ends.Runaway count) run are cause = absurd cause
+  over_cause from now rest ends.Eof run are cause = (parted_by_input config conn now.log run cause.0, cause.1.0, cause.1.1)
+  over_cause from now rest ends.ReadFault run are cause = (parted_by_input config conn now.log run cause.0, cause.1.0, cause.1.1)
+  over_cause from now rest (ends.TooLong len) run are cause = (
+    parted_by_input config conn now.log run cause.0,
+    cause.1.0,
+    behind (commands_of conn now.log) rest _ are cause.1.0 cause.1.1,
+  )
+  over_cause from now rest ends.BadLength run are cause = (
+    parted_by_input config conn now.log run cause.0,
+    cause.1.0,
+    behind (commands_of conn now.log) rest _ are cause.1.0 cause.1.1,
+  )
+  over_cause from now rest ends.WriteFault run are cause = absurd cause.1
+  over_cause from now rest (ends.JournalFull cost limit) run are cause = absurd cause.1
+  over_cause from now rest ends.Memory run are cause = absurd cause.1
+  over_cause from now rest (ends.Runaway count) run are cause = absurd cause.1
 
   whole : (out0 out1 : Output) (bytes : List ℕ) → Writes out0 out1 bytes → FrontWritten out0 out1 bytes
   whole out0 out1 bytes w = record { front = bytes; back = []; split = sym (append-nil bytes); writes = w }
@@ -326,10 +346,14 @@ cause_up : (end : End) (config : Configuration) (conn : ℕ) (log log' : List En
 cause_up ends.Exit config conn log log' in0 in1 taken others quiet cause = by_up config conn log log' way.Exit quiet cause
 cause_up ends.AuthRefused config conn log log' in0 in1 taken others quiet cause = by_up config conn log log' way.AuthRefused quiet cause
 cause_up ends.Stopped config conn log log' in0 in1 taken others quiet cause = stop_up config conn log log' quiet cause
-cause_up ends.Eof config conn log log' in0 in1 taken others quiet cause = cause
-cause_up ends.ReadFault config conn log log' in0 in1 taken others quiet cause = cause
-cause_up (ends.TooLong len) config conn log log' in0 in1 taken others quiet cause = cause
-cause_up ends.BadLength config conn log log' in0 in1 taken others quiet cause = cause
+cause_up ends.Eof config conn log log' in0 in1 taken others quiet cause =
+    (input_up config conn log log' quiet cause.0, cause.1, cause.2)
+cause_up ends.ReadFault config conn log log' in0 in1 taken others quiet cause =
+    (input_up config conn log log' quiet cause.0, cause.1, cause.2)
+cause_up (ends.TooLong len) config conn log log' in0 in1 taken others quiet cause =
+    (input_up config conn log log' quiet cause.0, cause.1, cause.2)
+cause_up ends.BadLength config conn log log' in0 in1 taken others quiet cause =
+    (input_up config conn log log' quiet cause.0, cause.1, cause.2)
 cause_up ends.WriteFault config conn log log' in0 in1 taken others quiet cause = cause
 cause_up (ends.JournalFull cost limit) config conn log log' in0 in1 taken others quiet cause =
     full_up config log log' cost limit (quiet.more, quiet.split) cause
@@ -361,6 +385,67 @@ told_up config conn in0 out0 log log' in1 out1 end run quiet t =
           );
       cause = cause_up end config conn log log' in0 in1 t.taken t.others quiet t.cause;
     }
+
+-- ---- what decides an end
+
+module _ (config : Configuration) (conn : ℕ) (in0 : Input) (out0 : Output) (log : List Entry) (in1 : Input) (out1 : Output) where
+  -- by this entry it parted where it was closed with all sent
+  entry_by : (end : End) (taken : List ℕ) (others : List (List ℕ)) → EndCause end config conn log in0 in1 taken others →
+      ends_sent end ≡ true → (why : Parting) × PartedAt config conn log why × EndsAs why end
+  entry_by ends.Exit taken others cause is = (way.Exit, cause.at, refl)
+  entry_by ends.AuthRefused taken others cause is = (way.AuthRefused, cause.at, refl)
+  entry_by ends.Stopped taken others (inl by_end) is = (way.Stopped, by_end.at, refl)
+  entry_by ends.Stopped taken others (inr left) is = (way.ChannelLeft, left, refl)
+  entry_by ends.Eof taken others cause is = (way.EndOfInput, cause.0.at, refl)
+  entry_by ends.ReadFault taken others cause is = (way.EndOfInput, cause.0.at, refl)
+  entry_by (ends.TooLong len) taken others cause is = (way.EndOfInput, cause.0.at, refl)
+  entry_by ends.BadLength taken others cause is = (way.EndOfInput, cause.0.at, refl)
+  entry_by ends.WriteFault taken others cause is = absurd (cc is)
+  entry_by (ends.JournalFull cost limit) taken others cause is = absurd (cc is)
+  entry_by ends.Memory taken others cause is = absurd (cc is)
+  entry_by (ends.Runaway count) taken others cause is = absurd (cc is)
+
+  pub ends_sent_by : (end : End) → Told config conn in0 out0 log in1 out1 end → ends_sent end ≡ true →
+      (why : Parting) × PartedAt config conn log why × EndsAs why end × (out1.faults ≡ out0.faults)
+  ends_sent_by end t is =
+      let by = entry_by end t.taken t.others t.cause is in
+      let all = t.all (t.sent ∙ is) in
+      let written : Writes out0 out1 (bytes_given config conn log) = all.0 in (by.0, by.1, by.2, written.faults)
+
+  -- it parted for nothing else
+  as_parted : (end : End) (why : Parting) → Told config conn in0 out0 log in1 out1 end → ends_sent end ≡ true →
+      PartedAt config conn log why → EndsAs why end ⊎ IsCutOff end
+  as_parted end why t is parted =
+      let by = entry_by end t.taken t.others t.cause is in
+      inl (subst (λ (w : Parting). EndsAs w end) (parts_once config conn log by.0 why t.run by.1 parted).2 by.2)
+
+  pub ends_parted : (end : End) (why : Parting) → Told config conn in0 out0 log in1 out1 end → PartedAt config conn log why →
+      out1.faults ≢ raised out0.faults → EndsAs why end ⊎ IsCutOff end
+  ends_parted ends.Exit why t parted written = as_parted ends.Exit why t refl parted
+  ends_parted ends.AuthRefused why t parted written = as_parted ends.AuthRefused why t refl parted
+  ends_parted ends.Stopped why t parted written = as_parted ends.Stopped why t refl parted
+  ends_parted ends.Eof why t parted written = as_parted ends.Eof why t refl parted
+  ends_parted ends.ReadFault why t parted written = as_parted ends.ReadFault why t refl parted
+  ends_parted (ends.TooLong len) why t parted written = as_parted (ends.TooLong len) why t refl parted
+  ends_parted ends.BadLength why t parted written = as_parted ends.BadLength why t refl parted
+  ends_parted ends.WriteFault why t parted written = absurd (written t.wrote.faults)
+  ends_parted (ends.JournalFull cost limit) why t parted written = inr tt
+  ends_parted ends.Memory why t parted written = inr tt
+  ends_parted (ends.Runaway count) why t parted written = absurd t.cause
+
+  pub ends_faultless : (end : End) → Told config conn in0 out0 log in1 out1 end → in1.faults ≢ raised in0.faults →
+      out1.faults ≢ raised out0.faults → is_faultless end ≡ true
+  ends_faultless ends.Exit t read written = refl
+  ends_faultless ends.Eof t read written = refl
+  ends_faultless ends.AuthRefused t read written = refl
+  ends_faultless ends.Stopped t read written = refl
+  ends_faultless ends.ReadFault t read written = absurd (read t.cause.2)
+  ends_faultless ends.WriteFault t read written = absurd (written t.wrote.faults)
+  ends_faultless (ends.TooLong len) t read written = refl
+  ends_faultless ends.BadLength t read written = refl
+  ends_faultless (ends.JournalFull cost limit) t read written = refl
+  ends_faultless ends.Memory t read written = refl
+  ends_faultless (ends.Runaway count) t read written = absurd t.cause
 
 -- what was tried needs no more bytes
 pub lacks_none : (rest : List ℕ) (result : Result Round Stop) → LacksBlock rest (tried_of result)

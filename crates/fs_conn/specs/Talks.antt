@@ -38,7 +38,7 @@ use Rattle.fs_conn.specs.declared.round.Piece.{Piece}
 use Rattle.fs_conn.specs.declared.round.Piece.TheVariants as pieces
 use Rattle.fs_conn.specs.Ends.{IsFullAt}
 use Rattle.fs_conn.specs.Steps.{MayBeFed, HoldsLittle}
-use Rattle.fs_conn.specs.Partings.{PartedBy, MadeToStop}
+use Rattle.fs_conn.specs.Partings.{PartedBy, PartedByInput, MadeToStop}
 use Rattle.fs_conn.specs.Owning.{Entered}
 
 -- where a conversation stands: the journal as far as its pass has seen it, the pass's places, and the two sides of its link
@@ -98,6 +98,10 @@ PartedEnd config conn log ends.AuthRefused = PartedIn config conn log parting.Au
 PartedEnd config conn log ends.Stopped = StoppedIn config conn log
 PartedEnd config conn log _ = ⊥
 
+-- how it ends behind the end of its input: so where it parted for that, else for what it had parted for before
+abbrev pub HungUp : Configuration → ℕ → List Entry → End → End → Type 0
+HungUp config conn log end e = ((e ≡ end) × PartedIn config conn log parting.EndOfInput) ⊎ PartedEnd config conn log e
+
 -- an end that comes before the connection is closed
 abbrev pub EarlyEnd : Configuration → List Entry → End → Type 0
 EarlyEnd config log (ends.JournalFull cost limit) = FullIn config log cost limit
@@ -131,6 +135,14 @@ pub record Idles (config : Configuration) (conn : ℕ) (seen : List Entry) (mine
   pub quiet : Quiet names conn seen seen'
   pub same : mine' ≡ mine
   pub run : IsJournal config seen'
+
+-- what was read where an end by the input comes: `rest` is no command
+abbrev pub InputCause : End → Point → Point → List ℕ → Type 0
+InputCause ends.Eof from now rest = (blocks_of rest ≡ []) × IsAtEnd now.input.left
+InputCause ends.ReadFault from now rest = (blocks_of rest ≡ []) × (now.input.faults ≡ raised from.input.faults)
+InputCause (ends.TooLong len) from now rest = (blocks_of rest ≡ []) × (fault_of rest ≡ Some (faults.TooLong len))
+InputCause ends.BadLength from now rest = (blocks_of rest ≡ []) × (fault_of rest ≡ Some faults.BadLength)
+InputCause _ from now rest = ⊥
 
 module _ (may : ℕ → Type 0) (config : Configuration) (conn : ℕ) where
   -- what was entered and read so far, of which `rest` is no command yet
@@ -196,19 +208,15 @@ module _ (may : ℕ → Type 0) (config : Configuration) (conn : ℕ) where
 
   -- either of both
   abbrev pub Hangs : End → Point → Point → List ℕ → Result End Stop → Type 0
-  Hangs end from now rest (Ok e) = ((e ≡ end) ⊎ PartedEnd config conn now.log e) × HasEnded from now rest
+  Hangs end from now rest (Ok e) = HungUp config conn now.log end e × HasEnded from now rest
   Hangs end from now rest (Err stop) = HasStopped from now rest stop
 
-  -- when an end may come, by what was read
+  -- for what the connection had parted where an end comes, and what was read
   abbrev pub OverCause : End → Point → Point → List ℕ → Type 0
   OverCause ends.Exit from now rest = PartedIn config conn now.log parting.Exit
   OverCause ends.AuthRefused from now rest = PartedIn config conn now.log parting.AuthRefused
   OverCause ends.Stopped from now rest = StoppedIn config conn now.log
-  OverCause ends.Eof from now rest = (blocks_of rest ≡ []) × IsAtEnd now.input.left
-  OverCause ends.ReadFault from now rest = (blocks_of rest ≡ []) × (now.input.faults ≡ raised from.input.faults)
-  OverCause (ends.TooLong len) from now rest = (blocks_of rest ≡ []) × (fault_of rest ≡ Some (faults.TooLong len))
-  OverCause ends.BadLength from now rest = (blocks_of rest ≡ []) × (fault_of rest ≡ Some faults.BadLength)
-  OverCause _ from now rest = ⊥
+  OverCause end from now rest = PartedIn config conn now.log parting.EndOfInput × InputCause end from now rest
 
   -- the conversation is over
   pub record Over (from now : Point) (end : End) : Type 0 where
@@ -261,6 +269,24 @@ ends_sent (ends.TooLong len) = true
 ends_sent ends.BadLength = true
 ends_sent _ = false
 
+-- an end for a full journal or for want of memory
+abbrev pub IsCutOff : End → Type 0
+IsCutOff (ends.JournalFull cost limit) = Unit {0}
+IsCutOff ends.Memory = Unit {0}
+IsCutOff _ = ⊥
+
+-- the ends that come though no read and no write failed
+abbrev pub is_faultless : End → Bool
+is_faultless ends.Exit = true
+is_faultless ends.Eof = true
+is_faultless ends.AuthRefused = true
+is_faultless ends.Stopped = true
+is_faultless (ends.TooLong len) = true
+is_faultless ends.BadLength = true
+is_faultless (ends.JournalFull cost limit) = true
+is_faultless ends.Memory = true
+is_faultless _ = false
+
 -- what was written of these bytes, by the end
 abbrev pub EndWrote : End → Output → Output → List ℕ → Type 0
 EndWrote ends.WriteFault out0 out1 bytes = Stopped out0 out1 bytes
@@ -271,10 +297,13 @@ abbrev pub EndCause : End → Configuration → ℕ → List Entry → Input →
 EndCause ends.Exit config conn log in0 in1 taken others = PartedBy config conn log parting.Exit
 EndCause ends.AuthRefused config conn log in0 in1 taken others = PartedBy config conn log parting.AuthRefused
 EndCause ends.Stopped config conn log in0 in1 taken others = MadeToStop config conn log
-EndCause ends.Eof config conn log in0 in1 taken others = (others ≡ []) × IsAtEnd in1.left
-EndCause ends.ReadFault config conn log in0 in1 taken others = (others ≡ []) × (in1.faults ≡ raised in0.faults)
-EndCause (ends.TooLong len) config conn log in0 in1 taken others = (others ≡ []) × (fault_of (rest_of taken) ≡ Some (faults.TooLong len))
-EndCause ends.BadLength config conn log in0 in1 taken others = (others ≡ []) × (fault_of (rest_of taken) ≡ Some faults.BadLength)
+EndCause ends.Eof config conn log in0 in1 taken others = PartedByInput config conn log × (others ≡ []) × IsAtEnd in1.left
+EndCause ends.ReadFault config conn log in0 in1 taken others =
+    PartedByInput config conn log × (others ≡ []) × (in1.faults ≡ raised in0.faults)
+EndCause (ends.TooLong len) config conn log in0 in1 taken others =
+    PartedByInput config conn log × (others ≡ []) × (fault_of (rest_of taken) ≡ Some (faults.TooLong len))
+EndCause ends.BadLength config conn log in0 in1 taken others =
+    PartedByInput config conn log × (others ≡ []) × (fault_of (rest_of taken) ≡ Some faults.BadLength)
 EndCause ends.WriteFault config conn log in0 in1 taken others = Unit {0}
 EndCause (ends.JournalFull cost limit) config conn log in0 in1 taken others = FullIn config log cost limit
 EndCause ends.Memory config conn log in0 in1 taken others = Unit {0}
@@ -318,6 +347,5 @@ module _ (may : ℕ → Type 0) (config : Configuration) (conn : ℕ) where
   -- it is over, with this end or since it had parted
   abbrev pub Hung : End → Point → Point → List ℕ → Result Round Stop → Type 0
   Hung end from now rest (Ok rounds.GoOn) = ⊥
-  Hung end from now rest (Ok (rounds.Done e)) =
-      ((e ≡ end) ⊎ PartedEnd config conn now.log e) × HasEnded may config conn from now rest
+  Hung end from now rest (Ok (rounds.Done e)) = HungUp config conn now.log end e × HasEnded may config conn from now rest
   Hung end from now rest (Err stop) = HasStopped may config conn from now rest stop

@@ -1,12 +1,14 @@
-//! What holds of every play. These functions do nothing: each stands for its contract.
+//! What holds of every play and of every conversation. These functions do nothing: each stands for its contract.
 
-ghost use Rattle.std.specs.Prelude.{◌≡◌, ℕ, ◌≤◌, Bool, true, false, List, [], ◌∷◌, ◌++◌, Some};
+ghost use Rattle.std.specs.Prelude.{◌≡◌, ◌≢◌, ◌⊎◌, ℕ, ◌≤◌, Bool, true, false, List, [], ◌∷◌, ◌++◌, Some};
 ghost use Rattle.std.specs.List.{concat};
 ghost use Rattle.fs_doc.specs.Limits.{IsWithin};
 ghost use Rattle.fs_doc.specs.Reading.{Configuration};
+ghost use Rattle.fs_ports.specs.Counts.{raised};
 ghost use Rattle.fs_ports.specs.Ports.{Input, Output};
 ghost use Rattle.fs_frame.specs.Block.{fault_of};
 ghost use Rattle.fs_frame.specs.Blocks.{blocks_of, rest_of};
+ghost use Rattle.fs_state.specs.declared.conn.Parting.{Parting};
 ghost use Rattle.fs_state.specs.declared.conn.Parting.TheVariants as parting;
 ghost use Rattle.fs_state.specs.Switch.{empty};
 ghost use Rattle.fs_book.specs.Opened.{Quiet};
@@ -21,7 +23,8 @@ ghost use Rattle.fs_conn.specs.declared.end.End.TheVariants as ends;
 ghost use Rattle.fs_conn.specs.Play.{bytes_handed, by_room, played_as, played};
 ghost use Rattle.fs_conn.specs.Steps.{is_early};
 ghost use Rattle.fs_conn.specs.Ends.{EndsFor, is_by_input, HasCause};
-ghost use Rattle.fs_conn.specs.Talks.{Told};
+ghost use Rattle.fs_conn.specs.Partings.{PartedAt, EndsAs};
+ghost use Rattle.fs_conn.specs.Talks.{Told, ends_sent, IsCutOff, is_faultless};
 
 /// The journal of a play is a run of the machine from the empty switch: no entry of it is refused, in particular none
 /// comes where the journal is full.
@@ -92,6 +95,26 @@ pub fn closes_at_its_end()
 pub fn refuses_only_when_full()
     ensures { (config : Configuration) (input : List ℕ) (read_failed : Bool)
         → IsWithin config → played config input read_failed ≡ played_as by_room config input read_failed }
+{}
+
+/// The entry by which its connection parted decides how a conversation ends. A journal has one such entry at most. A
+/// conversation whose connection was closed with all sent ended for what that entry was, and no write of it failed.
+/// Where there is such an entry and no write failed, it ends so, or by a full journal, or for want of memory. Where no
+/// read failed either, it does not end by one that did; and it never ends as one that ran away.
+pub fn ends_as_it_parted()
+    ensures once { (config : Configuration) (conn : ℕ) (log : List Entry) (why other : Parting)
+        → IsJournal config log → (p : PartedAt config conn log why) → (q : PartedAt config conn log other)
+        → (p.before ≡ q.before) × (p.entry ≡ q.entry) × (why ≡ other) }
+    ensures sent { (config : Configuration) (conn : ℕ) (in0 : Input) (out0 : Output) (log : List Entry)
+        (in1 : Input) (out1 : Output) (end : End) → Told config conn in0 out0 log in1 out1 end
+        → ends_sent end ≡ true
+        → (why : Parting) × PartedAt config conn log why × EndsAs why end × (out1.faults ≡ out0.faults) }
+    ensures parted { (config : Configuration) (conn : ℕ) (in0 : Input) (out0 : Output) (log : List Entry)
+        (in1 : Input) (out1 : Output) (end : End) (why : Parting) → Told config conn in0 out0 log in1 out1 end
+        → PartedAt config conn log why → out1.faults ≢ raised out0.faults → EndsAs why end ⊎ IsCutOff end }
+    ensures faultless { (config : Configuration) (conn : ℕ) (in0 : Input) (out0 : Output) (log : List Entry)
+        (in1 : Input) (out1 : Output) (end : End) → Told config conn in0 out0 log in1 out1 end
+        → in1.faults ≢ raised in0.faults → out1.faults ≢ raised out0.faults → is_faultless end ≡ true }
 {}
 
 /// What is told of a conversation stays true where the journal goes on without naming the connection.

@@ -26,7 +26,7 @@ pub use connection::play;
 pub use conversing::converse;
 pub use end::End;
 pub use laws::{
-    closes_at_its_end, ends_for_a_cause, enters_commands_once, hands_out_its_frames, plays_a_run,
-    refuses_only_when_full,
+    closes_at_its_end, ends_as_it_parted, ends_for_a_cause, enters_commands_once,
+    hands_out_its_frames, plays_a_run, refuses_only_when_full,
 };
 pub use welcoming::welcome;

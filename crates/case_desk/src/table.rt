@@ -163,15 +163,25 @@ impl Table {
 
     /// Files among which is `f`.
     pub fn files(&self) -> Result<MemFiles, Memory> {
+        self.files_of(&self.file)
+    }
+
+    /// Files among which is `f`, of whose document so many bytes are left.
+    pub fn cut_files(&self, len: usize) -> Result<MemFiles, Memory> {
+        self.files_of(self.file.get(..len).unwrap_or(&self.file))
+    }
+
+    // Files among which is `f` with these bytes.
+    fn files_of(&self, bytes: &[u8]) -> Result<MemFiles, Memory> {
         let mut held = Vec::new(self.alloc);
-        self.hold(&mut held)?;
+        self.hold(bytes, &mut held)?;
         MemFiles::new(self.alloc, &held, &self.failed_loads, &self.large_builds)
     }
 
-    // Adds the document.
-    fn hold(&self, held: &mut Vec<(Txt, Txt)>) -> Result<(), Memory> {
+    // Adds the document of these bytes.
+    fn hold(&self, bytes: &[u8], held: &mut Vec<(Txt, Txt)>) -> Result<(), Memory> {
         let name = Txt::of(self.alloc, b"f")?;
-        Ok(held.push((name, Txt::of(self.alloc, &self.file)?))?)
+        Ok(held.push((name, Txt::of(self.alloc, bytes)?))?)
     }
 
     /// A link that gives the input, and takes so many bytes. Its reads do not have to be tried again.
@@ -179,12 +189,25 @@ impl Table {
         ensures new { IfOk result (λ link. IsNewTape link) }
         ensures held { IfOk result (λ link. link.is_held ≡ false) }
     {
+        self.failing_link(&self.failed_reads, &self.failed_writes, room)
+    }
+
+    /// The same link, of which these reads and writes fail, and no others.
+    pub fn failing_link(
+        &self,
+        failed_reads: &[u64],
+        failed_writes: &[u64],
+        room: usize,
+    ) -> Result<MemLink, Memory>
+        ensures new { IfOk result (λ link. IsNewTape link) }
+        ensures held { IfOk result (λ link. link.is_held ≡ false) }
+    {
         MemLink::new(
             self.alloc,
             &self.input,
             &self.cuts,
-            &self.failed_reads,
-            &self.failed_writes,
+            failed_reads,
+            failed_writes,
             room,
         )
     }

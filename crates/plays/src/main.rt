@@ -4,6 +4,7 @@
 
 mod answers;
 mod bridging;
+mod each;
 mod entries;
 mod hearing;
 mod played;

@@ -1,5 +1,6 @@
 //! The desk at which cases of runs and plays are answered.
 
+use crate::each::tell_each;
 use crate::entries::tell_entries;
 use crate::played::{Told, tell_play};
 use crate::runs::tell_run;
@@ -34,6 +35,7 @@ fn tell(table: &Table, verb: &str, rest: &str, answer: &mut Answer) {
     match verb {
         "run" => tell_run(table, rest, false, answer),
         "measure" => tell_run(table, rest, true, answer),
+        "each" => tell_each(table, rest, answer),
         "play" => tell_play(table, Told::All, answer),
         "count" => tell_play(table, Told::Counts, answer),
         "bridging" => tell_play(table, Told::Bridging, answer),

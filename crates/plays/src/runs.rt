@@ -5,8 +5,8 @@ use fs_ports::MemLink;
 use fs_text::{Memory, Txt};
 use fs_top::{is_serve, run};
 
-// The most that is written.
-const ROOM: usize = 1_000_000;
+/// The most that is written.
+pub(crate) const ROOM: usize = 1_000_000;
 
 /// Answers `run WORDS` with the output, the line on the error output if there is one, and the status, and `measure
 /// WORDS` with the length of the output in place of it.
@@ -44,8 +44,8 @@ fn tell_written(written: &[u8], measures: bool, answer: &mut Answer) {
     }
 }
 
-// The texts that the words between spaces stand for.
-fn texts_of(words: &str, answer: &mut Answer) -> Vec<Txt> {
+/// The texts that the words between spaces stand for.
+pub(crate) fn texts_of(words: &str, answer: &mut Answer) -> Vec<Txt> {
     let mut texts = Vec::new(answer.alloc());
     for word in words.split_whitespace() {
         let done = push_text(word, &mut texts, answer);

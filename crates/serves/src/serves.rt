@@ -25,8 +25,8 @@ const TURNS: u64 = 1_000_000;
 const STEP: u64 = 1000;
 
 /// What the lines so far laid out: a document, the links that come, those that are dialed, what fails at the door and
-/// at dialers, and the gate of a slot; and how much is to be told of a server over them, where the last line asked for
-/// one.
+/// at dialers, the clock, and the gate of a slot; and how much is to be told of a server over them, where the last line
+/// asked for one.
 #[derive(Drop)]
 pub(crate) struct Serves {
     table: Table,
@@ -35,6 +35,7 @@ pub(crate) struct Serves {
     flags: Vec<Flag>,
     failed_accepts: Vec<u64>,
     failed_dials: Vec<u64>,
+    start: u64,
     step: u64,
     is_deaf: bool,
     gates: Option<HoldGates>,
@@ -79,6 +80,7 @@ impl Serves {
             flags: Vec::new(alloc),
             failed_accepts: Vec::new(alloc),
             failed_dials: Vec::new(alloc),
+            start: 0,
             step: STEP,
             is_deaf: false,
             gates: None,
@@ -114,6 +116,7 @@ impl Serves {
         self.flags.clear();
         self.failed_accepts.clear();
         self.failed_dials.clear();
+        self.start = 0;
         self.step = STEP;
         self.is_deaf = false;
         self.gates = None;
@@ -231,7 +234,7 @@ impl Serves {
         let mut door = MemDoor::new(alloc, links, &self.failed_accepts, self.is_deaf)?;
         let dialer = MemDialer::new(alloc, controllers, &self.failed_dials)?;
         let mut err = MemLink::new(alloc, &[], &[], &[], &[], ROOM)?;
-        let clock = StepClock::new(0, self.step);
+        let clock = StepClock::new(self.start, self.step);
         let gates = self.gates(alloc)?;
         let served = serve_with(
             rt, alloc, &words, &mut files, &mut door, &dialer, &clock, &mut err, &gates,
@@ -261,6 +264,7 @@ impl Serves {
             }
             "failed-dials" => answer.add_numbers(rest, &mut self.failed_dials),
             "failed-accepts" => answer.add_numbers(rest, &mut self.failed_accepts),
+            "start" => self.start = number_of(rest),
             "step" => self.step = number_of(rest),
             "deaf" => self.is_deaf = true,
             _ => return self.table.takes(verb, rest, answer),

@@ -2,6 +2,7 @@
 
 use crate::replay::{Played, played_again};
 use case_desk::Answer;
+use fs_machine::{Act, Entry};
 use fs_ports::{MemDialer, MemLink};
 use fs_text::Memory;
 use fs_top::{Conn, Served};
@@ -16,6 +17,8 @@ pub(crate) enum How {
     Short,
     /// How many connections there were.
     Number,
+    /// How many halts the journal has, and between which moments its entries stand.
+    Journal,
 }
 
 impl How {
@@ -25,13 +28,14 @@ impl How {
             "serve" => Some(How::Whole),
             "served" => Some(How::Short),
             "count" => Some(How::Number),
+            "journal" => Some(How::Journal),
             _ => None,
         }
     }
 }
 
-/// Tells of each connection how it ended and what was written to it, in order of these texts; and whether what was
-/// written to each is a front of what its frames are, played again by the journal.
+/// Tells of each connection how it ended and what was written to it, in order of these texts, or what else is asked
+/// for; and whether what was written to each is a front of what its frames are, played again by the journal.
 pub(crate) fn tell_served(
     served: &Served<MemLink, MemDialer>,
     file: &[u8],
@@ -39,10 +43,10 @@ pub(crate) fn tell_served(
     answer: &mut Answer,
 ) -> Result<(), Memory> {
     let alloc = answer.alloc();
-    if how == How::Number {
-        answer.told(format_args!("{} connections", served.conns.len()));
-    } else {
-        tell_conns(&served.conns, how, answer)?;
+    match how {
+        How::Whole | How::Short => tell_conns(&served.conns, how, answer)?,
+        How::Number => answer.told(format_args!("{} connections", served.conns.len())),
+        How::Journal => tell_journal(served.journal.entries(), answer),
     }
     match played_again(alloc, file, &served.journal, &served.conns)? {
         Played::AsTold => {}
@@ -72,4 +76,23 @@ fn text_of(conn: &Conn<MemLink>, how: How, alloc: Global) -> Result<Vec<u8>, Mem
         text.extend_from_slice(conn.link.written())?;
     }
     Ok(text)
+}
+
+// Tells how many halts there are among entries, and their least and their greatest moment.
+fn tell_journal(entries: &[Entry], answer: &mut Answer) {
+    let mut halts: u64 = 0;
+    let mut least = u64::MAX;
+    let mut greatest: u64 = 0;
+    for entry in entries {
+        if let Act::Halt = &entry.act {
+            halts = halts.saturating_add(1);
+        }
+        least = least.min(entry.moment);
+        greatest = greatest.max(entry.moment);
+    }
+    if entries.is_empty() {
+        answer.line("no entries");
+    } else {
+        answer.told(format_args!("halts {halts}, moments {least} to {greatest}"));
+    }
 }

@@ -1,5 +1,5 @@
 -- What entries, looks and writes do to a conversation that stands.
-use Rattle.std.proofs.Common.{◌≡◌, inl, inr, ℕ, ◌||◌, Bool, true, false, List, [], ◌∷◌, ◌++◌, length, Option, Some, None}
+use Rattle.std.proofs.Common.{◌≡◌, ◌≢◌, ◌⊎◌, inl, inr, ℕ, ◌||◌, Bool, true, false, List, [], ◌∷◌, ◌++◌, length, Option, Some, None}
 use Rattle.std.proofs.Common.{Result, Ok, Err, refl, ap, sym, subst, ◌∙◌, append_assoc, append-nil}
 use Rattle.std.proofs.lemmas.Bool.{eq-eqb}
 use Rattle.std.proofs.lemmas.List.Folds.{concat-append}
@@ -12,6 +12,7 @@ use Rattle.fs_ports.proofs.Sides.{writes_both, stopped_later, stopped_sooner}
 use Rattle.fs_frame.specs.Block.{IsBlock}
 use Rattle.fs_book.specs.Opened.{Quiet}
 use Rattle.fs_book.proofs.Lists.{prefix_self, prefix_trans, prefix_get, last_get}
+use Rattle.fs_state.specs.Switch.{Switch, empty, is_full}
 use Rattle.fs_state.specs.declared.conn.Parting.{Parting}
 use Rattle.fs_state.specs.declared.conn.Parting.TheVariants as partings
 use Rattle.fs_machine.specs.declared.entry.Entry.{Entry}
@@ -23,13 +24,17 @@ use Rattle.fs_machine.specs.declared.refusal.Refusal.TheVariants as refusal
 use Rattle.fs_machine.specs.declared.reply.Reply.{Reply}
 use Rattle.fs_machine.specs.declared.reply.Reply.TheVariants as reply
 use Rattle.fs_machine.specs.Concerns.{actor_of}
+use Rattle.fs_machine.specs.Connections.{phase_at}
 use Rattle.fs_machine.specs.Questions.{parting_at}
 use Rattle.fs_machine.specs.Frames.{handed_in, command_in, commands_of}
-use Rattle.fs_machine.specs.Laws.{state_after, given_to, handed_to}
+use Rattle.fs_machine.specs.Step.{is_closed, refused_where, refusal_of}
+use Rattle.fs_machine.specs.Laws.{IsRun, state_after, given_to, handed_to}
 use Rattle.fs_machine.specs.Turned.{IsJournal, names}
 use Rattle.fs_machine.specs.Carried.{closes_sent, is_sent, shuts, HasCome, is_shut_at, Carries}
 use Rattle.fs_machine.proofs.FramesLaws.{handed_first, handed_sent}
 use Rattle.fs_machine.proofs.RefusalLemmas.{full_refused}
+use Rattle.fs_machine.proofs.OrderLemmas.{not_full}
+use Rattle.fs_machine.proofs.RunLemmas.{runs_both}
 use Rattle.fs_machine.proofs.QuietLemmas.{carries, does, takes, takes_frame}
 use Rattle.fs_conn.specs.declared.end.End.{End}
 use Rattle.fs_conn.specs.declared.end.End.TheVariants as ends
@@ -38,7 +43,7 @@ use Rattle.fs_conn.specs.declared.stop.Stop.TheVariants.{Over, OutOfMemory, Writ
 use Rattle.fs_conn.specs.Play.{end_by}
 use Rattle.fs_conn.specs.Owning.{entry_at, Entered, Refused}
 use Rattle.fs_conn.specs.Talks.{Point, point, bytes_given, bytes_handed, MadeAt, Gains, FrontWritten, PartedIn, FullIn, PartedEnd, EarlyEnd}
-use Rattle.fs_conn.specs.Talks.{StopDid, Idles, Base, Holds, HasEnded, HasStopped, Tries, Takes, Closes, Departs, Hangs}
+use Rattle.fs_conn.specs.Talks.{IsGivenUp, end_unclosed, StopDid, Idles, Base, Holds, HasEnded, HasStopped, GivesUp, Tries, Takes, Closes, Departs, Hangs}
 
 -- ---- fronts of journals
 
@@ -70,6 +75,28 @@ early_up : (config : Configuration) (log log' : List Entry) (end : End) → IsPr
     EarlyEnd config log' end
 early_up config log log' (ends.JournalFull cost limit) pre e = full_up config log log' cost limit pre e
 early_up config log log' _ pre e = absurd e
+
+-- a closing as failed is refused only where the connection is closed or the journal is full
+closed_or_full : (s : Switch) (conn moment : ℕ) (why : Refusal) → refusal_of s (entry_at moment (Close conn Failed)) ≡ Some why →
+    (is_closed (phase_at s conn) ≡ true) ⊎ (is_full s ≡ true)
+unfolding refusal_of
+closed_or_full s conn moment why is = by (is_full s) refl (is_closed (phase_at s conn)) refl is
+  where
+    by : (full : Bool) → is_full s ≡ full → (closed : Bool) → is_closed (phase_at s conn) ≡ closed →
+        refused_where full (refusal.JournalFull s.cost s.settings.journal_limit) (refused_where closed refusal.Gone None) ≡ Some why
+        → (is_closed (phase_at s conn) ≡ true) ⊎ (is_full s ≡ true)
+    by true full closed at e = inr full
+    by false full true at e = inl at
+    by false full false at e = absurd (cc)
+
+-- behind a full journal no entry comes
+pub still_full : (config : Configuration) (log log' more : List Entry) → log ++ more ≡ log' → IsJournal config log' →
+    is_full (state_after config log) ≡ true → is_full (state_after config log') ≡ true
+still_full config log log' [] split run full =
+    subst (λ (j : List Entry). is_full (state_after config j) ≡ true) (sym (append-nil log) ∙ split) full
+still_full config log log' (entry ∷ more) split run full =
+    let both = runs_both (empty config) log (entry ∷ more) (subst (λ (j : List Entry). IsRun config j) (sym split) run.run) in
+    let left : true ≡ false = sym full ∙ not_full (state_after config log) entry both.1.0 in absurd (cc left)
 
 -- ---- what was written
 
@@ -410,34 +437,47 @@ module _ (may : ℕ → Type 0) (config : Configuration) (conn : ℕ) where
             (sym (all ∙ a.handed ∙ append-nil (handed_to conn config n.before))) now.written;
       }
 
-  -- it was closed as failed, or that was refused
-  gave_up_entered : (from : Point) (log log' : List Entry) (mine mine' : List ℕ) (in1 : Input) (out1 : Output) (rest : List ℕ)
+  -- it was closed as failed
+  pub gave_up_entered : (from : Point) (log log' : List Entry) (mine mine' : List ℕ) (in1 : Input) (out1 : Output) (rest : List ℕ)
       (answer : Reply) → Entered may config conn log mine log' mine' (Close conn Failed) answer
       → HasStopped may config conn from (point log mine in1 out1) rest WriteFault
-      → HasStopped may config conn from (point log' mine' in1 out1) rest WriteFault
+      → GivesUp may config conn from (point log' mine' in1 out1) rest ends.WriteFault
   gave_up_entered from log log' mine mine' in1 out1 rest answer n s =
       let now = stops_quiet from log n.before mine mine in1 out1 rest WriteFault (idle_before log log' mine mine' _ answer n) s in
-      let a = after from log log' mine mine' in1 out1 rest (Close conn Failed) answer refl refl n s.base s.unsent in
-      record {
-        base = a.base;
-        unsent = a.sent;
-        did =
-            did_longer config conn n.before log' from.output out1 WriteFault a.more
-            (entry_at n.moment (Close conn Failed) ∷ [], n.sees) a.given now.did;
-      }
+      let a = after from log log' mine mine' in1 out1 rest (Close conn Failed) answer refl refl n s.base s.unsent in (
+        record {
+          base = a.base;
+          unsent = a.sent;
+          did =
+              did_longer config conn n.before log' from.output out1 WriteFault a.more
+              (entry_at n.moment (Close conn Failed) ∷ [], n.sees) a.given now.did;
+        },
+        inl a.shut,
+      )
 
-  pub gave_up : (from : Point) (log log' : List Entry) (mine mine' : List ℕ) (in1 : Input) (out1 : Output) (rest : List ℕ)
-      (result : Result (Option Reply) Stop) → Tries may config conn log mine log' mine' (Close conn Failed) result
+  -- that was refused
+  refused_closed : (log log' : List Entry) (mine mine' : List ℕ) (why : Refusal) → why ≢ refusal.Memory →
+      Refused config conn log mine log' mine' (Close conn Failed) why → IsGivenUp config conn log'
+  refused_closed log log' mine mine' why other r = closed_or_full (state_after config log') conn r.moment why (r.refuses.cause other)
+
+  pub gave_up_refused : (from : Point) (log log' : List Entry) (mine mine' : List ℕ) (in1 : Input) (out1 : Output) (rest : List ℕ)
+      (why : Refusal) → Refused config conn log mine log' mine' (Close conn Failed) why
       → HasStopped may config conn from (point log mine in1 out1) rest WriteFault
-      → HasStopped may config conn from (point log' mine' in1 out1) rest WriteFault
-  gave_up from log log' mine mine' in1 out1 rest (Ok (Some answer)) tried s =
-      gave_up_entered from log log' mine mine' in1 out1 rest answer tried s
-  gave_up from log log' mine mine' in1 out1 rest (Ok None) tried s = stops_quiet from log log' mine mine' in1 out1 rest WriteFault tried s
-  gave_up from log log' mine mine' in1 out1 rest (Err (Over end)) tried s =
-      stops_quiet from log log' mine mine' in1 out1 rest WriteFault tried.0 s
-  gave_up from log log' mine mine' in1 out1 rest (Err OutOfMemory) tried s =
-      stops_quiet from log log' mine mine' in1 out1 rest WriteFault tried s
-  gave_up from log log' mine mine' in1 out1 rest (Err WriteFault) tried s = absurd tried
+      → GivesUp may config conn from (point log' mine' in1 out1) rest (end_unclosed why)
+  gave_up_refused from log log' mine mine' in1 out1 rest why r s =
+      by why r (stops_quiet from log log' mine mine' in1 out1 rest WriteFault (refused_idles log log' mine mine' _ why r) s)
+    where
+      by : (why : Refusal) → Refused config conn log mine log' mine' (Close conn Failed) why
+          → HasStopped may config conn from (point log' mine' in1 out1) rest WriteFault
+          → GivesUp may config conn from (point log' mine' in1 out1) rest (end_unclosed why)
+      by refusal.Memory r s = s
+      by (refusal.JournalFull cost limit) r s = (s, refused_closed log log' mine mine' _ (λ same. cc) r)
+      by refusal.Gone r s = (s, refused_closed log log' mine mine' _ (λ same. cc) r)
+      by (refusal.TooMany live) r s = (s, refused_closed log log' mine mine' _ (λ same. cc) r)
+      by (refusal.Busy since) r s = (s, refused_closed log log' mine mine' _ (λ same. cc) r)
+      by refusal.Empty r s = (s, refused_closed log log' mine mine' _ (λ same. cc) r)
+      by (refusal.Unsent queued owed) r s = (s, refused_closed log log' mine mine' _ (λ same. cc) r)
+      by (refusal.NotDue next) r s = (s, refused_closed log log' mine mine' _ (λ same. cc) r)
 
   -- ---- how a connection is closed
 

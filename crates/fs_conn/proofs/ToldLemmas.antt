@@ -23,7 +23,7 @@ use Rattle.fs_machine.specs.declared.reply.Reply.{Reply}
 use Rattle.fs_machine.specs.Frames.{commands_of}
 use Rattle.fs_machine.specs.Laws.{given_to, handed_to}
 use Rattle.fs_machine.specs.Turned.{IsJournal, names}
-use Rattle.fs_machine.specs.Carried.{is_sent}
+use Rattle.fs_machine.specs.Carried.{is_sent, is_shut_at}
 use Rattle.fs_machine.proofs.QuietLemmas.{carries, does, begins}
 use Rattle.fs_conn.specs.declared.end.End.{End}
 use Rattle.fs_conn.specs.declared.end.End.TheVariants as ends
@@ -34,10 +34,10 @@ use Rattle.fs_conn.specs.declared.round.Round.TheVariants.{GoOn, Done}
 use Rattle.fs_conn.specs.Owning.{OwnsConn, entry_at, Entered}
 use Rattle.fs_conn.specs.Partings.{PartedAt, EndsAs}
 use Rattle.fs_conn.specs.Talks.{Point, point, bytes_given, FrontWritten, PartedIn, PartedEnd, HungUp, InputCause, IfTried, LacksBlock, tried_of}
-use Rattle.fs_conn.specs.Talks.{Base, Holds, HasStopped, OverCause, Over, Rounds, Handles, Departed, Hung, ends_sent, EndWrote, EndCause}
+use Rattle.fs_conn.specs.Talks.{Base, Holds, HasStopped, GivesUp, OverCause, Over, Rounds, Handles, Departed, Hung, ends_sent, EndWrote, EndCause}
 use Rattle.fs_conn.specs.Talks.{Told, Talks, IsCutOff, is_faultless}
 use Rattle.fs_conn.proofs.PartingLemmas.{at_front, parted_by_command, parted_by_input, made_to_stop, by_up, input_up, stop_up, parts_once}
-use Rattle.fs_conn.proofs.TalkLemmas.{or_none, full_up, front_longer, holds_quiet, stops_holds, idle_before, gains_push}
+use Rattle.fs_conn.proofs.TalkLemmas.{or_none, full_up, still_full, front_longer, holds_quiet, stops_holds, idle_before, gains_push}
 
 -- bytes that have no block are all behind their blocks
 rest_whole : (rest : List ℕ) → blocks_of rest ≡ [] → rest_of rest ≡ rest
@@ -228,6 +228,7 @@ module _ (may : ℕ → Type 0) (config : Configuration) (conn : ℕ) where
   over_wrote : (from now : Point) (rest : List ℕ) (end : End) (bytes : List ℕ) → OverCause may config conn end from now rest →
       FrontWritten from.output now.output bytes → EndWrote end from.output now.output bytes
   over_wrote from now rest ends.WriteFault bytes cause w = absurd cause.1
+  over_wrote from now rest ends.Memory bytes cause w = absurd cause.1
   over_wrote from now rest _ bytes cause w = w
 
   over_cause : (from now : Point) (rest : List ℕ) (end : End) → IsJournal config now.log → AllByRecursion IsBlock (commands_of conn now.log) →
@@ -304,11 +305,14 @@ module _ (may : ℕ → Type 0) (config : Configuration) (conn : ℕ) where
 
   pub ends_memory : (from now : Point) (rest : List ℕ) → HasStopped may config conn from now rest stops.OutOfMemory →
       Talks may config conn from now ends.Memory
-  ends_memory from now rest s = ends_stopped from now rest ends.Memory s.base s.unsent refl s.did tt
+  ends_memory from now rest s = ends_stopped from now rest ends.Memory s.base s.unsent refl (inl s.did) tt
 
-  pub ends_write : (from now : Point) (rest : List ℕ) → HasStopped may config conn from now rest stops.WriteFault →
-      Talks may config conn from now ends.WriteFault
-  ends_write from now rest s = ends_stopped from now rest ends.WriteFault s.base s.unsent refl s.did tt
+  pub ends_given_up : (from now : Point) (rest : List ℕ) (end : End) → GivesUp may config conn from now rest end →
+      Talks may config conn from now end
+  ends_given_up from now rest ends.WriteFault g =
+      ends_stopped from now rest ends.WriteFault g.0.base g.0.unsent refl g.0.did g.1
+  ends_given_up from now rest ends.Memory g = ends_stopped from now rest ends.Memory g.base g.unsent refl (inr g.did) tt
+  ends_given_up from now rest _ g = absurd g
 
   pub ends_early : (from now : Point) (rest : List ℕ) (end : End) → HasStopped may config conn from now rest (stops.Over end) →
       Talks may config conn from now end
@@ -337,28 +341,32 @@ wrote_longer ends.ReadFault out0 out1 bytes more w = front_longer out0 out1 byte
 wrote_longer (ends.TooLong len) out0 out1 bytes more w = front_longer out0 out1 bytes more w
 wrote_longer ends.BadLength out0 out1 bytes more w = front_longer out0 out1 bytes more w
 wrote_longer (ends.JournalFull cost limit) out0 out1 bytes more w = front_longer out0 out1 bytes more w
-wrote_longer ends.Memory out0 out1 bytes more w = front_longer out0 out1 bytes more w
+wrote_longer ends.Memory out0 out1 bytes more (inl w) = inl (front_longer out0 out1 bytes more w)
+wrote_longer ends.Memory out0 out1 bytes more (inr w) = inr (stopped_sooner out0 out1 bytes more w)
 wrote_longer (ends.Runaway count) out0 out1 bytes more w = front_longer out0 out1 bytes more w
 
 cause_up : (end : End) (config : Configuration) (conn : ℕ) (log log' : List Entry) (in0 in1 : Input) (taken : List ℕ)
-    (others : List (List ℕ)) → Quiet names conn log log' → EndCause end config conn log in0 in1 taken others
+    (others : List (List ℕ)) → IsJournal config log' → is_shut_at config log' conn ≡ is_shut_at config log conn
+    → Quiet names conn log log' → EndCause end config conn log in0 in1 taken others
     → EndCause end config conn log' in0 in1 taken others
-cause_up ends.Exit config conn log log' in0 in1 taken others quiet cause = by_up config conn log log' way.Exit quiet cause
-cause_up ends.AuthRefused config conn log log' in0 in1 taken others quiet cause = by_up config conn log log' way.AuthRefused quiet cause
-cause_up ends.Stopped config conn log log' in0 in1 taken others quiet cause = stop_up config conn log log' quiet cause
-cause_up ends.Eof config conn log log' in0 in1 taken others quiet cause =
+cause_up ends.Exit config conn log log' in0 in1 taken others run shut quiet cause = by_up config conn log log' way.Exit quiet cause
+cause_up ends.AuthRefused config conn log log' in0 in1 taken others run shut quiet cause = by_up config conn log log' way.AuthRefused quiet cause
+cause_up ends.Stopped config conn log log' in0 in1 taken others run shut quiet cause = stop_up config conn log log' quiet cause
+cause_up ends.Eof config conn log log' in0 in1 taken others run shut quiet cause =
     (input_up config conn log log' quiet cause.0, cause.1, cause.2)
-cause_up ends.ReadFault config conn log log' in0 in1 taken others quiet cause =
+cause_up ends.ReadFault config conn log log' in0 in1 taken others run shut quiet cause =
     (input_up config conn log log' quiet cause.0, cause.1, cause.2)
-cause_up (ends.TooLong len) config conn log log' in0 in1 taken others quiet cause =
+cause_up (ends.TooLong len) config conn log log' in0 in1 taken others run shut quiet cause =
     (input_up config conn log log' quiet cause.0, cause.1, cause.2)
-cause_up ends.BadLength config conn log log' in0 in1 taken others quiet cause =
+cause_up ends.BadLength config conn log log' in0 in1 taken others run shut quiet cause =
     (input_up config conn log log' quiet cause.0, cause.1, cause.2)
-cause_up ends.WriteFault config conn log log' in0 in1 taken others quiet cause = cause
-cause_up (ends.JournalFull cost limit) config conn log log' in0 in1 taken others quiet cause =
+cause_up ends.WriteFault config conn log log' in0 in1 taken others run shut quiet (inl closed) = inl (shut ∙ closed)
+cause_up ends.WriteFault config conn log log' in0 in1 taken others run shut quiet (inr full) =
+    inr (still_full config log log' quiet.more quiet.split run full)
+cause_up (ends.JournalFull cost limit) config conn log log' in0 in1 taken others run shut quiet cause =
     full_up config log log' cost limit (quiet.more, quiet.split) cause
-cause_up ends.Memory config conn log log' in0 in1 taken others quiet cause = cause
-cause_up (ends.Runaway count) config conn log log' in0 in1 taken others quiet cause = cause
+cause_up ends.Memory config conn log log' in0 in1 taken others run shut quiet cause = cause
+cause_up (ends.Runaway count) config conn log log' in0 in1 taken others run shut quiet cause = cause
 
 pub told_up : (config : Configuration) (conn : ℕ) (in0 : Input) (out0 : Output) (log log' : List Entry) (in1 : Input) (out1 : Output)
     (end : End) → IsJournal config log' → Quiet names conn log log' → Told config conn in0 out0 log in1 out1 end
@@ -383,7 +391,7 @@ told_up config conn in0 out0 log log' in1 out1 end run quiet t =
             subst (λ (fs : List Text). Writes out0 out1 (concat fs)) (sym (k.silent all.1)) all.0,
             k.shut ∙ all.1,
           );
-      cause = cause_up end config conn log log' in0 in1 t.taken t.others quiet t.cause;
+      cause = cause_up end config conn log log' in0 in1 t.taken t.others run k.shut quiet t.cause;
     }
 
 -- ---- what decides an end

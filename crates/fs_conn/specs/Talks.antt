@@ -11,12 +11,14 @@ use Rattle.fs_frame.specs.Blocks.{HasNoBlock, blocks_of, rest_of}
 use Rattle.fs_frame.specs.Stream.{Stream, fed_with}
 use Rattle.fs_frame.specs.declared.fault.Fault.TheVariants as faults
 use Rattle.fs_book.specs.Opened.{Quiet}
-use Rattle.fs_state.specs.Switch.{Switch}
+use Rattle.fs_state.specs.Switch.{Switch, is_full}
 use Rattle.fs_state.specs.declared.conn.Parting.{Parting}
 use Rattle.fs_state.specs.declared.conn.Parting.TheVariants as parting
 use Rattle.fs_machine.specs.declared.entry.Entry.{Entry}
 use Rattle.fs_machine.specs.declared.entry.Act.{Act}
 use Rattle.fs_machine.specs.declared.entry.Act.TheVariants.{Take}
+use Rattle.fs_machine.specs.declared.refusal.Refusal.{Refusal}
+use Rattle.fs_machine.specs.declared.refusal.Refusal.TheVariants as refusal
 use Rattle.fs_machine.specs.declared.reply.Reply.{Reply}
 use Rattle.fs_machine.specs.declared.reply.Reply.TheVariants as reply
 use Rattle.fs_machine.specs.declared.answer.Answer.{Answer}
@@ -102,6 +104,15 @@ PartedEnd config conn log _ = ⊥
 abbrev pub HungUp : Configuration → ℕ → List Entry → End → End → Type 0
 HungUp config conn log end e = ((e ≡ end) × PartedIn config conn log parting.EndOfInput) ⊎ PartedEnd config conn log e
 
+-- behind a write that failed: the connection is closed, or the journal is full
+abbrev pub IsGivenUp : Configuration → ℕ → List Entry → Type 0
+IsGivenUp config conn log = (is_shut_at config log conn ≡ true) ⊎ (is_full (state_after config log) ≡ true)
+
+-- how it ends where closing it was refused for this, behind a write that failed
+abbrev pub end_unclosed : Refusal → End
+end_unclosed refusal.Memory = ends.Memory
+end_unclosed _ = ends.WriteFault
+
 -- an end that comes before the connection is closed
 abbrev pub EarlyEnd : Configuration → List Entry → End → Type 0
 EarlyEnd config log (ends.JournalFull cost limit) = FullIn config log cost limit
@@ -173,6 +184,12 @@ module _ (may : ℕ → Type 0) (config : Configuration) (conn : ℕ) where
     pub base : Base from now rest
     pub unsent : is_sent conn now.log ≡ false
     pub did : StopDid config conn now.log from.output now.output stop
+
+  -- a write failed, and it was given up, or memory was wanting for that
+  abbrev pub GivesUp : Point → Point → List ℕ → End → Type 0
+  GivesUp from now rest ends.WriteFault = HasStopped from now rest stops.WriteFault × IsGivenUp config conn now.log
+  GivesUp from now rest ends.Memory = HasStopped from now rest stops.WriteFault
+  GivesUp from now rest _ = ⊥
 
   -- an act was entered, or was refused and the conversation goes on, or stops
   abbrev pub Tries : List Entry → List ℕ → List Entry → List ℕ → Act → Result (Option Reply) Stop → Type 0
@@ -287,9 +304,10 @@ is_faultless (ends.JournalFull cost limit) = true
 is_faultless ends.Memory = true
 is_faultless _ = false
 
--- what was written of these bytes, by the end
+-- what was written of these bytes, by the end: memory may have been wanting behind a write that failed
 abbrev pub EndWrote : End → Output → Output → List ℕ → Type 0
 EndWrote ends.WriteFault out0 out1 bytes = Stopped out0 out1 bytes
+EndWrote ends.Memory out0 out1 bytes = FrontWritten out0 out1 bytes ⊎ Stopped out0 out1 bytes
 EndWrote _ out0 out1 bytes = FrontWritten out0 out1 bytes
 
 -- when an end may come: `others` are the blocks that were read and are no commands
@@ -304,7 +322,7 @@ EndCause (ends.TooLong len) config conn log in0 in1 taken others =
     PartedByInput config conn log × (others ≡ []) × (fault_of (rest_of taken) ≡ Some (faults.TooLong len))
 EndCause ends.BadLength config conn log in0 in1 taken others =
     PartedByInput config conn log × (others ≡ []) × (fault_of (rest_of taken) ≡ Some faults.BadLength)
-EndCause ends.WriteFault config conn log in0 in1 taken others = Unit {0}
+EndCause ends.WriteFault config conn log in0 in1 taken others = IsGivenUp config conn log
 EndCause (ends.JournalFull cost limit) config conn log in0 in1 taken others = FullIn config log cost limit
 EndCause ends.Memory config conn log in0 in1 taken others = Unit {0}
 EndCause (ends.Runaway count) config conn log in0 in1 taken others = ⊥

@@ -6,14 +6,14 @@ ghost use Rattle.fs_book.specs.Passes.{seen, mine, met, parts, opening_state, Is
 ghost use Rattle.fs_conn.specs.declared.stop.Stop.TheVariants.{WriteFault as by_write};
 ghost use Rattle.fs_machine.specs.Turned.{configured};
 ghost use Rattle.fs_conn.specs.Owning.{OwnsConn};
-ghost use Rattle.fs_conn.specs.Talks.{Point, point, Holds, HasStopped, Closes, Departs, Hangs};
+ghost use Rattle.fs_conn.specs.Talks.{Point, point, Holds, HasStopped, GivesUp, Closes, Departs, Hangs, end_unclosed};
 
 use crate::end::End;
 use crate::handing::{attempt, drain};
-use crate::owner::look;
+use crate::owner::{enter, look};
 use crate::stop::Stop;
 use fs_book::{Book, Pass};
-use fs_machine::{Act, Closing, Machine};
+use fs_machine::{Act, Closing, Machine, Refusal};
 use fs_ports::{Clock, Link};
 use std::sync::Wait;
 
@@ -112,14 +112,14 @@ pub(crate) fn hang_up<R: Wait, C: Clock, L: Link>(
     }
 }
 
-/// Closes a connection to which a write failed.
+/// Closes a connection to which a write failed, and says how its conversation ends: by that, or for want of memory.
 pub(crate) fn give_up<R: Wait, C: Clock>(
     rt: &R,
     book: &Book<Machine>,
     pass: &mut Pass<Machine>,
     conn: u32,
     clock: &C,
-)
+) -> End
     requires book { IsPassOf configured book.now pass.old }
     requires owns { OwnsConn (configured (opening_state book.now)) conn (seen pass.old) (mine pass.old) }
     ensures book { IsPassOf configured book.now pass.new }
@@ -128,9 +128,22 @@ pub(crate) fn give_up<R: Wait, C: Clock>(
     ensures stops { (from : Point) (in1 : Input) (out1 : Output) (rest : List ℕ)
         → HasStopped (C.tells clock.now) (configured (opening_state book.now)) conn from
         (point (seen pass.old) (mine pass.old) in1 out1) rest by_write
-        → HasStopped (C.tells clock.now) (configured (opening_state book.now)) conn from
-        (point (seen pass.new) (mine pass.new) in1 out1) rest by_write }
+        → GivesUp (C.tells clock.now) (configured (opening_state book.now)) conn from
+        (point (seen pass.new) (mine pass.new) in1 out1) rest result }
 {
     let how = Closing::Failed;
-    let _tried = attempt(rt, book, pass, conn, clock, Act::Close { conn, how });
+    match enter(rt, book, pass, conn, clock, Act::Close { conn, how }) {
+        Ok(_) => return End::WriteFault,
+        Err(refusal) => return unclosed(refusal),
+    }
+}
+
+// How a conversation ends behind a write that failed, where the closing of its connection was refused for this.
+fn unclosed(refusal: Refusal) -> End
+    ensures { result ≡ end_unclosed refusal }
+{
+    match refusal {
+        Refusal::Memory => End::Memory,
+        _ => End::WriteFault,
+    }
 }

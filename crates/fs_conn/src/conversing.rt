@@ -28,7 +28,8 @@ use std::sync::Wait;
 /// owed, and while nothing can be read. Somebody else has to work what is due.
 ///
 /// Where the journal is full or memory is wanting, that is the end, and the connection stays as it is. After a write
-/// that failed it is closed as failed, unless that is refused. At every other end it is closed with all sent.
+/// that failed it is closed as failed, unless the journal is full; where memory is wanting for that, that is the end. At
+/// every other end it is closed with all sent.
 pub fn converse<R: Wait, C: Clock, L: Link>(
     rt: &R,
     alloc: Global,
@@ -58,10 +59,7 @@ pub fn converse<R: Wait, C: Clock, L: Link>(
             Ok(Round::Done(end)) => return end,
             Err(Stop::Over(end)) => return end,
             Err(Stop::OutOfMemory) => return End::Memory,
-            Err(Stop::WriteFault) => {
-                give_up(rt, book, pass, conn, clock);
-                return End::WriteFault;
-            }
+            Err(Stop::WriteFault) => return give_up(rt, book, pass, conn, clock),
         }
     }
     unreachable!()

@@ -1,7 +1,7 @@
 use Rattle.std.proofs.Common.{[], refl, ◌∙◌}
 use Rattle.fs_book.specs.Passes.{seen, mine}
 use Rattle.fs_conn.proofs.TalkLemmas.{stops_holds}
-use Rattle.fs_conn.proofs.ToldLemmas.{holds_first, ends_over, ends_memory, ends_write, ends_early}
+use Rattle.fs_conn.proofs.ToldLemmas.{holds_first, ends_over, ends_memory, ends_given_up, ends_early}
 use Rattle.fs_conn.proofs.HeldLemmas.{held_new}
 use Rattle.fs_conn.proofs.conversing.converse.Goals as goal
 
@@ -56,5 +56,5 @@ pub returns-in-Err-WriteFault-clause-talks : goal.returns-in-Err-WriteFault-clau
 returns-in-Err-WriteFault-clause-talks g c =
     let stopped =
     rw c.in-Err-WriteFault.field-0-is at (c.in-Err-WriteFault.ensures.turns _ c.rounds.invariant.holds c.rounds.invariant.faults) in
-    ends_write _ _ _ _ _ stopped.0
+    ends_given_up _ _ _ _ _ stopped.0 c.give_up.result
     (c.give_up.ensures.stops _ (g.L.Port.input c.take_round.new.link) (g.L.Port.output c.take_round.new.link) stopped.0 stopped.1)

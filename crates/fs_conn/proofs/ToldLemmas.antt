@@ -1,5 +1,5 @@
 -- What rounds of a conversation come to, how it begins, and what is told of it at its end.
-use Rattle.std.proofs.Common.{◌≡◌, ◌≢◌, ◌⊎◌, inl, inr, ℕ, true, false, if◌then◌else◌, List, [], ◌∷◌, ◌++◌, length, drop, Some}
+use Rattle.std.proofs.Common.{◌≡◌, ◌≢◌, ◌⊎◌, inl, inr, ℕ, true, false, if◌then◌else◌, List, [], ◌∷◌, ◌++◌, length, drop, Option}
 use Rattle.std.proofs.Common.{Result, Ok, Err, refl, ap, sym, subst, ◌∙◌, append_assoc, append-nil}
 use Rattle.std.proofs.lemmas.Bool.{eq-eqb}
 use Rattle.std.proofs.lemmas.List.Folds.{concat-append}
@@ -44,8 +44,8 @@ rest_whole : (rest : List ℕ) → blocks_of rest ≡ [] → rest_of rest ≡ re
 unfolding rest_of
 rest_whole rest none = ap (λ (bs : List (List ℕ)). drop (length (concat bs)) rest) none
 
-behind : (bs : List (List ℕ)) (rest : List ℕ) (fault : Fault) → AllByRecursion IsBlock bs → blocks_of rest ≡ [] →
-    fault_of rest ≡ Some fault → fault_of (rest_of (concat bs ++ rest)) ≡ Some fault
+behind : (bs : List (List ℕ)) (rest : List ℕ) (fault : Option Fault) → AllByRecursion IsBlock bs → blocks_of rest ≡ [] →
+    fault_of rest ≡ fault → fault_of (rest_of (concat bs ++ rest)) ≡ fault
 behind bs rest fault are none is = ap fault_of (rest_of-append bs rest are ∙ rest_whole rest none) ∙ is
 
 bytes_push : (bs : List (List ℕ)) (b rest : List ℕ) → concat (bs ++ b ∷ []) ++ rest ≡ concat bs ++ (b ++ rest)
@@ -239,17 +239,30 @@ module _ (may : ℕ → Type 0) (config : Configuration) (conn : ℕ) where
   over_cause from now rest ends.AuthRefused run are cause =
       parted_by_command config conn now.log way.AuthRefused run refl (λ same. cc) (at_front config conn now.log way.AuthRefused run cause)
   over_cause from now rest ends.Stopped run are cause = made_to_stop config conn now.log run cause
-  over_cause from now rest ends.Eof run are cause = (parted_by_input config conn now.log run cause.0, cause.1.0, cause.1.1)
-  over_cause from now rest ends.ReadFault run are cause = (parted_by_input config conn now.log run cause.0, cause.1.0, cause.1.1)
+  over_cause from now rest ends.Eof run are cause = (
+    parted_by_input config conn now.log run cause.0,
+    cause.1.0,
+    behind (commands_of conn now.log) rest _ are cause.1.0 cause.1.1,
+    cause.1.2,
+    cause.1.3,
+  )
+  over_cause from now rest ends.ReadFault run are cause = (
+    parted_by_input config conn now.log run cause.0,
+    cause.1.0,
+    behind (commands_of conn now.log) rest _ are cause.1.0 cause.1.1,
+    cause.1.2,
+  )
   over_cause from now rest (ends.TooLong len) run are cause = (
     parted_by_input config conn now.log run cause.0,
     cause.1.0,
     behind (commands_of conn now.log) rest _ are cause.1.0 cause.1.1,
+    cause.1.2,
   )
   over_cause from now rest ends.BadLength run are cause = (
     parted_by_input config conn now.log run cause.0,
     cause.1.0,
     behind (commands_of conn now.log) rest _ are cause.1.0 cause.1.1,
+    cause.1.2,
   )
   over_cause from now rest ends.WriteFault run are cause = absurd cause.1
   over_cause from now rest (ends.JournalFull cost limit) run are cause = absurd cause.1
@@ -353,13 +366,13 @@ cause_up ends.Exit config conn log log' in0 in1 taken others run shut quiet caus
 cause_up ends.AuthRefused config conn log log' in0 in1 taken others run shut quiet cause = by_up config conn log log' way.AuthRefused quiet cause
 cause_up ends.Stopped config conn log log' in0 in1 taken others run shut quiet cause = stop_up config conn log log' quiet cause
 cause_up ends.Eof config conn log log' in0 in1 taken others run shut quiet cause =
-    (input_up config conn log log' quiet cause.0, cause.1, cause.2)
+    (input_up config conn log log' quiet cause.0, cause.1, cause.2, cause.3, cause.4)
 cause_up ends.ReadFault config conn log log' in0 in1 taken others run shut quiet cause =
-    (input_up config conn log log' quiet cause.0, cause.1, cause.2)
+    (input_up config conn log log' quiet cause.0, cause.1, cause.2, cause.3)
 cause_up (ends.TooLong len) config conn log log' in0 in1 taken others run shut quiet cause =
-    (input_up config conn log log' quiet cause.0, cause.1, cause.2)
+    (input_up config conn log log' quiet cause.0, cause.1, cause.2, cause.3)
 cause_up ends.BadLength config conn log log' in0 in1 taken others run shut quiet cause =
-    (input_up config conn log log' quiet cause.0, cause.1, cause.2)
+    (input_up config conn log log' quiet cause.0, cause.1, cause.2, cause.3)
 cause_up ends.WriteFault config conn log log' in0 in1 taken others run shut quiet (inl closed) = inl (shut ∙ closed)
 cause_up ends.WriteFault config conn log log' in0 in1 taken others run shut quiet (inr full) =
     inr (still_full config log log' quiet.more quiet.split run full)
@@ -447,7 +460,7 @@ module _ (config : Configuration) (conn : ℕ) (in0 : Input) (out0 : Output) (lo
   ends_faultless ends.Eof t read written = refl
   ends_faultless ends.AuthRefused t read written = refl
   ends_faultless ends.Stopped t read written = refl
-  ends_faultless ends.ReadFault t read written = absurd (read t.cause.2)
+  ends_faultless ends.ReadFault t read written = absurd (read t.cause.3)
   ends_faultless ends.WriteFault t read written = absurd (written t.wrote.faults)
   ends_faultless (ends.TooLong len) t read written = refl
   ends_faultless ends.BadLength t read written = refl

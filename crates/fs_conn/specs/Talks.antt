@@ -149,10 +149,14 @@ pub record Idles (config : Configuration) (conn : ℕ) (seen : List Entry) (mine
 
 -- what was read where an end by the input comes: `rest` is no command
 abbrev pub InputCause : End → Point → Point → List ℕ → Type 0
-InputCause ends.Eof from now rest = (blocks_of rest ≡ []) × IsAtEnd now.input.left
-InputCause ends.ReadFault from now rest = (blocks_of rest ≡ []) × (now.input.faults ≡ raised from.input.faults)
-InputCause (ends.TooLong len) from now rest = (blocks_of rest ≡ []) × (fault_of rest ≡ Some (faults.TooLong len))
-InputCause ends.BadLength from now rest = (blocks_of rest ≡ []) × (fault_of rest ≡ Some faults.BadLength)
+InputCause ends.Eof from now rest =
+    (blocks_of rest ≡ []) × (fault_of rest ≡ None) × (now.input.faults ≡ from.input.faults) × IsAtEnd now.input.left
+InputCause ends.ReadFault from now rest =
+    (blocks_of rest ≡ []) × (fault_of rest ≡ None) × (now.input.faults ≡ raised from.input.faults)
+InputCause (ends.TooLong len) from now rest =
+    (blocks_of rest ≡ []) × (fault_of rest ≡ Some (faults.TooLong len)) × (now.input.faults ≡ from.input.faults)
+InputCause ends.BadLength from now rest =
+    (blocks_of rest ≡ []) × (fault_of rest ≡ Some faults.BadLength) × (now.input.faults ≡ from.input.faults)
 InputCause _ from now rest = ⊥
 
 module _ (may : ℕ → Type 0) (config : Configuration) (conn : ℕ) where
@@ -257,9 +261,13 @@ abbrev pub tried_of : Result Round Stop → Result (Option Round) Stop
 tried_of (Ok round) = Ok (Some round)
 tried_of (Err stop) = Err stop
 
--- where nothing was tried, no block stands in front
+-- no block stands in front of these bytes, and nothing is wrong with them
+abbrev pub NeedsMore : List ℕ → Type 0
+NeedsMore rest = HasNoBlock rest × (fault_of rest ≡ None)
+
+-- where nothing was tried, more is needed for a block
 abbrev pub LacksBlock : List ℕ → Result (Option Round) Stop → Type 0
-LacksBlock rest (Ok None) = HasNoBlock rest
+LacksBlock rest (Ok None) = NeedsMore rest
 LacksBlock rest _ = Unit {0}
 
 -- how much is held behind a part of a round: where nothing was tried, more may be fed
@@ -315,13 +323,14 @@ abbrev pub EndCause : End → Configuration → ℕ → List Entry → Input →
 EndCause ends.Exit config conn log in0 in1 taken others = PartedBy config conn log parting.Exit
 EndCause ends.AuthRefused config conn log in0 in1 taken others = PartedBy config conn log parting.AuthRefused
 EndCause ends.Stopped config conn log in0 in1 taken others = MadeToStop config conn log
-EndCause ends.Eof config conn log in0 in1 taken others = PartedByInput config conn log × (others ≡ []) × IsAtEnd in1.left
+EndCause ends.Eof config conn log in0 in1 taken others =
+    PartedByInput config conn log × (others ≡ []) × (fault_of (rest_of taken) ≡ None) × (in1.faults ≡ in0.faults) × IsAtEnd in1.left
 EndCause ends.ReadFault config conn log in0 in1 taken others =
-    PartedByInput config conn log × (others ≡ []) × (in1.faults ≡ raised in0.faults)
+    PartedByInput config conn log × (others ≡ []) × (fault_of (rest_of taken) ≡ None) × (in1.faults ≡ raised in0.faults)
 EndCause (ends.TooLong len) config conn log in0 in1 taken others =
-    PartedByInput config conn log × (others ≡ []) × (fault_of (rest_of taken) ≡ Some (faults.TooLong len))
+    PartedByInput config conn log × (others ≡ []) × (fault_of (rest_of taken) ≡ Some (faults.TooLong len)) × (in1.faults ≡ in0.faults)
 EndCause ends.BadLength config conn log in0 in1 taken others =
-    PartedByInput config conn log × (others ≡ []) × (fault_of (rest_of taken) ≡ Some faults.BadLength)
+    PartedByInput config conn log × (others ≡ []) × (fault_of (rest_of taken) ≡ Some faults.BadLength) × (in1.faults ≡ in0.faults)
 EndCause ends.WriteFault config conn log in0 in1 taken others = IsGivenUp config conn log
 EndCause (ends.JournalFull cost limit) config conn log in0 in1 taken others = FullIn config log cost limit
 EndCause ends.Memory config conn log in0 in1 taken others = Unit {0}

@@ -3,7 +3,6 @@
 ghost use Rattle.std.specs.Prelude.{◌≡◌, ◌++◌, List, ℕ, IfOk};
 ghost use Rattle.fs_ports.specs.Ports.{Input};
 ghost use Rattle.fs_frame.specs.Block.{IsBlock};
-ghost use Rattle.fs_frame.specs.Blocks.{HasNoBlock};
 ghost use Rattle.fs_book.specs.Passes.{seen, mine, met, parts, opening_state, IsPassOf};
 ghost use Rattle.fs_machine.specs.Laws.{state_after};
 ghost use Rattle.fs_machine.specs.Standing.{standing_of};
@@ -11,7 +10,7 @@ ghost use Rattle.fs_machine.specs.Turned.{configured};
 ghost use Rattle.fs_conn.specs.Steps.{MayBeFed, HoldsLittle};
 ghost use Rattle.fs_conn.specs.Owning.{OwnsConn};
 ghost use Rattle.fs_conn.specs.Talks.{Point, point, Holds, GoesOn, Gets, Handles, Hung, Departed, Rounds};
-ghost use Rattle.fs_conn.specs.Talks.{IfTried, LacksBlock, HoldsBehind, tried_of};
+ghost use Rattle.fs_conn.specs.Talks.{IfTried, NeedsMore, LacksBlock, HoldsBehind, tried_of};
 
 use crate::closing::{depart, hang_up};
 use crate::end::End;
@@ -244,7 +243,7 @@ fn read_on<R: Wait, C: Clock, L: Link>(
 ) -> Result<Option<Round>, Stop>
     requires book { IsPassOf configured book.now pass.old }
     requires owns { OwnsConn (configured (opening_state book.now)) conn (seen pass.old) (mine pass.old) }
-    requires none { HasNoBlock blocks.old.rest }
+    requires none { NeedsMore blocks.old.rest }
     requires may { MayBeFed blocks.old }
     ensures book { IsPassOf configured book.now pass.new }
     ensures owns { OwnsConn (configured (opening_state book.now)) conn (seen pass.new) (mine pass.new) }
@@ -281,7 +280,7 @@ fn read_more<R: Wait, C: Clock, L: Link>(
 ) -> Result<Round, Stop>
     requires book { IsPassOf configured book.now pass.old }
     requires owns { OwnsConn (configured (opening_state book.now)) conn (seen pass.old) (mine pass.old) }
-    requires none { HasNoBlock blocks.old.rest }
+    requires none { NeedsMore blocks.old.rest }
     requires may { MayBeFed blocks.old }
     ensures book { IsPassOf configured book.now pass.new }
     ensures owns { OwnsConn (configured (opening_state book.now)) conn (seen pass.new) (mine pass.new) }

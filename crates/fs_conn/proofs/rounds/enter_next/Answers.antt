@@ -1,13 +1,12 @@
 use Rattle.std.proofs.Common.{◌≡◌, ◌++◌, sym, ap, subst, ◌∙◌, List, ℕ}
 use Rattle.fs_ports.specs.Ports.{Input}
 use Rattle.fs_book.specs.Passes.{seen, mine, opening_state}
-use Rattle.fs_frame.specs.Blocks.{HasNoBlock}
 use Rattle.fs_frame.specs.Stream.{Stream}
 use Rattle.fs_frame.specs.Next.{HandsOut, bytes_of}
 use Rattle.fs_frame.proofs.BlockLaws.{blocks_of-no_block}
 use Rattle.fs_conn.specs.declared.end.End.TheVariants.{TooLong, BadLength}
 use Rattle.fs_machine.specs.Turned.{configured}
-use Rattle.fs_conn.specs.Talks.{point, Holds}
+use Rattle.fs_conn.specs.Talks.{point, Holds, NeedsMore}
 use Rattle.fs_conn.proofs.ToldLemmas.{turns_handled, turns_hung, if_tried, lacks_none}
 use Rattle.fs_conn.proofs.HeldLemmas.{held_behind, held_tried}
 use Rattle.fs_conn.proofs.rounds.enter_next.Goals as goal
@@ -45,7 +44,7 @@ returns-in-NeedMore-clause-none g c =
     let now = c.next_block.follows.lender-at-none in
     let unchanged : c.args.blocks.now.rest ≡ now.rest =
     sym (ap (λ (s : Stream). s.rest) c.next_block.follows.holds-at-none ∙ c.in-NeedMore.ensures.answer.0.rest) in
-    subst (λ (bs : List ℕ). HasNoBlock bs) unchanged c.in-NeedMore.ensures.answer.0.no_block
+    subst (λ (bs : List ℕ). NeedsMore bs) unchanged (c.in-NeedMore.ensures.answer.0.no_block, c.in-NeedMore.ensures.answer.1)
 
 pub returns-in-NeedMore-clause-turns : goal.returns-in-NeedMore-clause-turns
 returns-in-NeedMore-clause-turns g c = λ from h same.
@@ -65,8 +64,11 @@ pub returns-in-TooLong-clause-turns : goal.returns-in-TooLong-clause-turns
 returns-in-TooLong-clause-turns g c = λ from h same.
     let rest = c.args.blocks.now.rest in
     rw c.tried-in-TooLong.ensures (if_tried _ _ _ from _ _ c.ended.result
-    (turns_hung _ _ _ from _ rest _ (TooLong c.in-TooLong.len) c.ended.result
-    (blocks_of-no_block rest c.in-TooLong.ensures.answer.0.no_block, c.in-TooLong.ensures.answer.1)
+    (turns_hung _ _ _ from _ rest _ (TooLong c.in-TooLong.len) c.ended.result (
+      blocks_of-no_block rest c.in-TooLong.ensures.answer.0.no_block,
+      c.in-TooLong.ensures.answer.1,
+      ap (λ (i : Input). i.faults) c.ended.ensures.input ∙ same,
+    )
     (c.ended.ensures.hung from rest h)))
 
 pub returns-in-BadLength-clause-none : goal.returns-in-BadLength-clause-none
@@ -76,6 +78,9 @@ pub returns-in-BadLength-clause-turns : goal.returns-in-BadLength-clause-turns
 returns-in-BadLength-clause-turns g c = λ from h same.
     let rest = c.args.blocks.now.rest in
     rw c.tried-in-BadLength.ensures (if_tried _ _ _ from _ _ c.ended-in-BadLength.result
-    (turns_hung _ _ _ from _ rest _ BadLength c.ended-in-BadLength.result
-    (blocks_of-no_block rest c.in-BadLength.ensures.answer.0.no_block, c.in-BadLength.ensures.answer.1)
+    (turns_hung _ _ _ from _ rest _ BadLength c.ended-in-BadLength.result (
+      blocks_of-no_block rest c.in-BadLength.ensures.answer.0.no_block,
+      c.in-BadLength.ensures.answer.1,
+      ap (λ (i : Input). i.faults) c.ended-in-BadLength.ensures.input ∙ same,
+    )
     (c.ended-in-BadLength.ensures.hung from rest h)))

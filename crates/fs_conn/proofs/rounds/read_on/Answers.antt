@@ -32,8 +32,12 @@ pub returns-in-Ok-AtEnd-clause-turns : goal.returns-in-Ok-AtEnd-clause-turns
 returns-in-Ok-AtEnd-clause-turns g c = λ from h same.
     let read = rw c.in-Ok-AtEnd.field-0-is at c.in-Ok-AtEnd.ensures.gets in
     rw c.tried-in-Ok-AtEnd.ensures (if_tried _ _ _ from _ _ c.ended.result
-    (turns_hung _ _ _ from _ c.args.blocks.now.rest _ Eof c.ended.result
-    (blocks_of-no_block c.args.blocks.now.rest c.requires.none, rw c.ended.ensures.input read.0)
+    (turns_hung _ _ _ from _ c.args.blocks.now.rest _ Eof c.ended.result (
+      blocks_of-no_block c.args.blocks.now.rest c.requires.none.0,
+      c.requires.none.1,
+      rw (c.ended.ensures.input, read.1, same) refl,
+      rw c.ended.ensures.input read.0,
+    )
     (c.ended.ensures.hung from c.args.blocks.now.rest (rw (read.1, c.get.ensures.output) h))))
 
 pub returns-in-Ok-Failed-clause-none : goal.returns-in-Ok-Failed-clause-none
@@ -44,8 +48,11 @@ returns-in-Ok-Failed-clause-turns g c = λ from h same.
     let read = rw c.in-Ok-Failed.field-0-is at c.in-Ok-Failed.ensures.gets in
     let last = c.ended-in-Ok-Failed in
     rw c.tried-in-Ok-Failed.ensures (if_tried _ _ _ from _ _ last.result
-    (turns_hung _ _ _ from _ c.args.blocks.now.rest _ ReadFault last.result
-    (blocks_of-no_block c.args.blocks.now.rest c.requires.none, rw (last.ensures.input, read.0, same) refl)
+    (turns_hung _ _ _ from _ c.args.blocks.now.rest _ ReadFault last.result (
+      blocks_of-no_block c.args.blocks.now.rest c.requires.none.0,
+      c.requires.none.1,
+      rw (last.ensures.input, read.0, same) refl,
+    )
     (last.ensures.hung from c.args.blocks.now.rest
     (rw (read.0, c.get.ensures.output)
     (read_failed_on _ _ _ from (seen c.args.pass.now) (mine c.args.pass.now) _ _ c.args.blocks.now.rest h)))))

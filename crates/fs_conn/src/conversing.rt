@@ -28,8 +28,8 @@ use std::sync::Wait;
 /// owed, and while nothing can be read. Somebody else has to work what is due.
 ///
 /// Where the journal is full or memory is wanting, that is the end, and the connection stays as it is. After a write
-/// that failed it is closed as failed, unless the journal is full; where memory is wanting for that, that is the end. At
-/// every other end it is closed with all sent.
+/// that failed it is closed as failed, unless the journal is full; where memory is wanting for that, that is the end.
+/// At every other end it is closed with all sent.
 pub fn converse<R: Wait, C: Clock, L: Link>(
     rt: &R,
     alloc: Global,

@@ -18,7 +18,7 @@ use Rattle.fs_conn.specs.Turns.{HasRead}
 use Rattle.fs_top.specs.Told.{Told, Asked, file_asked, told_words, told_read, told_asked}
 use Rattle.fs_top.specs.Runs.{CarriesOut, completes, fails_to_write, lacks_memory, fails_for_memory, Completes, BreaksForMemory}
 use Rattle.fs_top.specs.Doors.{Rose}
-use Rattle.fs_top.specs.Serving.{IsNoDocument, IsUnread, IsServable, NoneFailed, IsStatus, IsGoodStatus}
+use Rattle.fs_top.specs.Serving.{IsReadAs, IsNoDocument, IsUnread, IsServable, NoneFailed, IsStatus, IsGoodStatus}
 use Rattle.fs_top.specs.Runs.{RefusesPattern, IsPlayed, Gives, IsTold, IsBuilt, Ran, HasReadings, IsGiven, NoneRose, DoesAll}
 use Rattle.fs_top.proofs.CauseLaws.{failed_read}
 
@@ -126,7 +126,7 @@ complete asked next_load counts0 counts1 sizes0 sizes1 in0 in1 out0 out1 err0 er
 -- The statuses of a server that have another cause do not come.
 module _ (next_load : List ℕ → Option File) (name : List ℕ) (counts0 counts1 : LoadCounts) (sizes0 sizes1 doors0 doors1 code : ℕ)
     (document : code ≡ 3 → IsNoDocument next_load name sizes0 sizes1) (unread : code ≡ 4 → IsUnread next_load name counts0 counts1)
-    (door : code ≡ 7 → Rose doors0 doors1) (c : Configuration) (servable : IsServable next_load name c)
+    (door : code ≡ 7 → (d : Configuration) × IsReadAs next_load name d × Rose doors0 doors1) (c : Configuration) (servable : IsServable next_load name c)
     (none : NoneFailed sizes0 sizes1 doors0 doors1) where
   is_given : (file : File) → Tells (next_load name) file → file ≡ Got servable.bytes
   is_given file told = tells_is (next_load name) file servable.bytes servable.told told
@@ -161,6 +161,6 @@ module _ (next_load : List ℕ → Option File) (name : List ℕ) (counts0 count
       by (suc zero) below is = (1, omega arith, is)
       by (suc (suc zero)) below is = absurd (is_document (document (sym is)))
       by (suc (suc (suc zero))) below is = absurd (is_read (unread (sym is)))
-      by (suc (suc (suc (suc zero)))) below is = absurd (none.doors (door (sym is)))
+      by (suc (suc (suc (suc zero)))) below is = absurd (none.doors (door (sym is)).2)
       by (suc (suc (suc (suc (suc zero))))) below is = (2, omega arith, is)
       by (suc (suc (suc (suc (suc (suc k)))))) below is = absurd (omega (arith, below))

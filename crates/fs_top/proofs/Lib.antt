@@ -12,6 +12,7 @@ mod RunLaws
 mod SendLemmas
 mod ServeLaws
 mod SettleLaws
+mod ShutdownLaws
 mod StandLemmas
 mod TalkLemmas
 mod VainLemmas

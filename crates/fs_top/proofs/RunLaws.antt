@@ -1,6 +1,6 @@
 -- What a run of the program comes to.
 use Rattle.std.proofs.Common.{◌≡◌, ◌≢◌, ℕ, Bool, true, false, cond, IsTrue, List, [], ◌++◌, Option, None, Some, Result, Ok, Err}
-use Rattle.std.proofs.Common.{◌⊎◌, unwrap_or, refl, sym, ap, ◌∙◌, subst, inl, inr}
+use Rattle.std.proofs.Common.{◌⊎◌, unwrap_or, refl, sym, ap, ◌∙◌, subst, inl, inr, true≢false}
 use Rattle.std.specs.List.{concat}
 use Rattle.std.specs.Option.{option_map}
 use Rattle.fs_ports.specs.Counts.{raised}
@@ -31,10 +31,10 @@ use Rattle.fs_conn.proofs.LawLemmas.{config_played, bytes_begin}
 use Rattle.fs_top.specs.Counted.{counts_text}
 use Rattle.fs_top.specs.Told.{Told, Asked, Check, Hunt, Play, Load, file_asked, told_words, told_file, told_read, told_built, told_asked}
 use Rattle.fs_top.specs.Told.{told_play, told_calls, counts_printed, told_text, refused, is_eof, line_of_end, status_of_end, usage_line, cannot_read_line, fault_line}
-use Rattle.fs_top.specs.Told.{pattern_line}
+use Rattle.fs_top.specs.Told.{pattern_line, memory_line}
 use Rattle.fs_top.specs.Runs.{line_of_outcome, status_of_outcome, PlaysTo, CarriesOut, completes, fails_to_write, lacks_memory}
 use Rattle.fs_top.specs.Runs.{fails_for_memory, CarriesOutAs, IsPlayed, Loads, Gives, LoadedAs, Answers, IsPlanBuiltOf, IsBuilt, OverConfig, OverBytes, is_memory, not_read}
-use Rattle.fs_top.specs.Runs.{not_built, Runs, RefusesPattern, Ran}
+use Rattle.fs_top.specs.Runs.{not_built, Runs, RefusesPattern, Ran, LeavesAlone, RestsAs}
 use Rattle.fs_top.specs.declared.outcome.Outcome.{Outcome}
 use Rattle.fs_top.specs.declared.outcome.Outcome.TheVariants.{Usage, CannotRead, BadDocument, BadPattern, Printed, Ended}
 
@@ -54,6 +54,20 @@ refused_does in0 out0 line status outcome line_is status_is =
 memory_does : (told : Told) (in1 : Input) (out0 : Output) → CarriesOutAs told in1 out0 out0 (Ended ends.Memory)
 memory_does told in1 out0 =
     lacks_memory (record { front = []; back = told.output; split = refl; written = writes_nothing out0; line_is = refl; status_is = refl })
+
+-- the link rests as it was, behind a line alone or for want of memory
+refused_rests : (in0 : Input) (out0 : Output) (line : List ℕ) (status : ℕ) (outcome : Outcome) →
+    line_of_outcome outcome ≡ line → status_of_outcome outcome ≡ status → RestsAs (refused line status) in0 in0 out0 out0 outcome
+refused_rests in0 out0 line status outcome line_is status_is =
+    λ _. record { input = refl; output = refl; answer = inl (line_is, status_is) }
+
+memory_rests : (told : Told) (in0 : Input) (out0 : Output) → RestsAs told in0 in0 out0 out0 (Ended ends.Memory)
+memory_rests told in0 out0 = λ _. record { input = refl; output = refl; answer = inr (refl, refl) }
+
+-- what is done with it is not told so
+pub used_rests : (told : Told) (in0 in1 : Input) (out0 out1 : Output) (outcome : Outcome) → told.untouched ≡ false →
+    RestsAs told in0 in1 out0 out1 outcome
+used_rests told in0 in1 out0 out1 outcome used = λ left. absurd (true≢false (sym left ∙ used))
 
 -- a text was printed, or a write of it failed, or memory was wanting for it
 pub print_all : (in1 : Input) (out0 out1 : Output) (text : List ℕ) → Writes out0 out1 text →
@@ -90,8 +104,9 @@ unplayed (Some (Load count start)) in0 = record { side = input_left (load_input 
 
 -- nothing was read for the answer
 pub answers_quiet : (told : List ℕ → Bool → Told) (asked : Option Asked) (in0 in1 : Input) (out0 out1 : Output) (outcome : Outcome) →
-    in1 ≡ in0 → ((to : Input) → CarriesOutAs (told [] false) to out0 out1 outcome) → Answers told asked in0 in1 out0 out1 outcome
-answers_quiet told asked in0 in1 out0 out1 outcome same does = let none = unplayed asked in0 in record {
+    in1 ≡ in0 → ((to : Input) → CarriesOutAs (told [] false) to out0 out1 outcome) → RestsAs (told [] false) in0 in1 out0 out1 outcome →
+    Answers told asked in0 in1 out0 out1 outcome
+answers_quiet told asked in0 in1 out0 out1 outcome same does rests = let none = unplayed asked in0 in record {
   from = none.side;
   to = none.side;
   input = [];
@@ -100,6 +115,7 @@ answers_quiet told asked in0 in1 out0 out1 outcome same does = let none = unplay
   has_read = reads_none none.side;
   quiet = λ _. same;
   does = does none.side;
+  rests = rests;
 }
 
 -- only one end is by the end of the input
@@ -138,6 +154,7 @@ answers_finished c file in0 in1 out0 out1 end journal f = record {
     status_is = sym (ap (λ (last : Option End). unwrap_or (option_map status_of_end last) 0) f.end_is);
     at_end = λ h. f.at_end (eof_is end (subst (λ (last : Option End). IsTrue (unwrap_or (option_map is_eof last) false)) f.end_is h));
   });
+  rests = used_rests (tells c f.input f.read_failed) in0 in1 out0 out1 (Ended end) refl;
 }
 
 -- what a front of the journal handed out is a front of the output
@@ -188,6 +205,7 @@ answers_ended c file in0 in1 out0 out1 ends.Memory journal (all_written plays) =
     line_is = refl;
     status_is = refl;
   });
+  rests = used_rests (tells c b.input b.read_failed) in0 in1 out0 out1 (Ended ends.Memory) refl;
 }
 answers_ended c file in0 in1 out0 out1 ends.Memory journal (then_failed plays) = let b = plays.breaks in record {
   from = in0;
@@ -199,6 +217,7 @@ answers_ended c file in0 in1 out0 out1 ends.Memory journal (then_failed plays) =
   quiet = λ none. absurd none;
   does =
       fails_for_memory (record { stopped = stopped_output c in0 in1 out0 out1 journal b plays.stopped; line_is = refl; status_is = refl });
+  rests = used_rests (tells c b.input b.read_failed) in0 in1 out0 out1 (Ended ends.Memory) refl;
 }
 answers_ended c file in0 in1 out0 out1 ends.Memory journal (failed_before p plays same) = let b = plays.breaks in record {
   from = in0;
@@ -214,6 +233,7 @@ answers_ended c file in0 in1 out0 out1 ends.Memory journal (failed_before p play
         line_is = refl;
         status_is = refl;
       });
+  rests = used_rests (tells c b.input b.read_failed) in0 in1 out0 out1 (Ended ends.Memory) refl;
 }
 answers_ended c file in0 in1 out0 out1 ends.WriteFault journal plays = let b = plays.breaks_at.breaks in record {
   from = in0;
@@ -229,6 +249,7 @@ answers_ended c file in0 in1 out0 out1 ends.WriteFault journal plays = let b = p
         line_is = refl;
         status_is = refl;
       });
+  rests = used_rests (tells c b.input b.read_failed) in0 in1 out0 out1 (Ended ends.WriteFault) refl;
 }
 
 pub answers_played : (c : Configuration) (file : List ℕ) (in0 in1 : Input) (out0 out1 : Output) (outcome : Outcome) →
@@ -265,6 +286,7 @@ told_counted count tallies last = record {
   line = unwrap_or (option_map line_of_end last) [];
   status = unwrap_or (option_map status_of_end last) 0;
   at_end = unwrap_or (option_map is_eof last) false;
+  untouched = false;
 }
 
 -- all its calls were made, and the counts were printed
@@ -368,6 +390,7 @@ answers_loaded c count start in0 in1 out0 out1 outcome same loads = record {
   has_read = loads.has_read;
   quiet = λ _. same;
   does = loads.does;
+  rests = used_rests (told_calls count (played c loads.input false)) in0 in1 out0 out1 outcome refl;
 }
 
 -- ---- over a configuration
@@ -386,7 +409,8 @@ over_refused asked c fault sizes0 sizes1 in0 out0 refused = record {
   built = Some fault;
   built_told = refused;
   answers = answers_quiet (told_built asked c (Some fault)) (Some asked) in0 in0 out0 out0 (BadPattern fault) refl
-      (λ to. refused_does to out0 (pattern_line fault) 3 (BadPattern fault) refl refl);
+      (λ to. refused_does to out0 (pattern_line fault) 3 (BadPattern fault) refl refl)
+      (refused_rests in0 out0 (pattern_line fault) 3 (BadPattern fault) refl refl);
 }
 
 -- memory was wanting for them
@@ -397,7 +421,7 @@ over_unbuilt asked c sizes0 sizes1 in0 out0 sizes = record {
   built_told = sizes;
   answers =
       answers_quiet (told_built asked c None) (Some asked) in0 in0 out0 out0 (Ended ends.Memory) refl
-      (λ to. memory_does (told_built asked c None [] false) to out0);
+      (λ to. memory_does (told_built asked c None [] false) to out0) (memory_rests (told_built asked c None [] false) in0 out0);
 }
 
 -- the dialplan was not built
@@ -441,7 +465,8 @@ over_faulty asked bytes fault sizes in0 out0 reads = record {
       subst (λ (r : Result Configuration DocFault). Answers (told_read asked r None) (Some asked) in0 in0 out0 out0 (BadDocument fault))
       (sym reads)
       (answers_quiet (told_read asked (Err fault) None) (Some asked) in0 in0 out0 out0 (BadDocument fault) refl
-      (λ to. refused_does to out0 (fault_line fault) 3 (BadDocument fault) refl refl));
+      (λ to. refused_does to out0 (fault_line fault) 3 (BadDocument fault) refl refl)
+      (refused_rests in0 out0 (fault_line fault) 3 (BadDocument fault) refl refl));
 }
 
 pub over_unread : (asked : Asked) (bytes : List ℕ) (sizes : ℕ) (in0 : Input) (out0 : Output) →
@@ -451,7 +476,8 @@ over_unread asked bytes sizes in0 out0 = record {
   built_told = refl;
   answers =
       answers_quiet (told_file asked (Got bytes) None) (Some asked) in0 in0 out0 out0 (Ended ends.Memory) refl
-      (λ to. memory_does (told_file asked (Got bytes) None [] false) to out0);
+      (λ to. memory_does (told_file asked (Got bytes) None [] false) to out0)
+      (memory_rests (told_file asked (Got bytes) None [] false) in0 out0);
 }
 
 -- the document was not read: it has this fault, or memory was wanting
@@ -480,7 +506,8 @@ runs_usage next_load counts sizes in0 out0 = record {
   built_told = refl;
   loaded = λ _. refl;
   answers =
-      answers_quiet (told_words None Absent None) None in0 in0 out0 out0 Usage refl (λ to. refused_does to out0 usage_line 2 Usage refl refl);
+      answers_quiet (told_words None Absent None) None in0 in0 out0 out0 Usage refl
+      (λ to. refused_does to out0 usage_line 2 Usage refl refl) (refused_rests in0 out0 usage_line 2 Usage refl refl);
   usage = λ _. refl;
 }
 
@@ -521,6 +548,12 @@ runs_bytes asked bytes next_load counts0 counts1 counts2 sizes0 sizes1 sizes2 in
       usage = λ none. absurd (cc);
     }
 
+-- the line names the file that is asked for
+named_line : (asked : Asked) (name : List ℕ) → file_asked asked ≡ Some name → (outcome : Outcome) →
+    line_of_outcome outcome ≡ cannot_read_line name → line_of_outcome outcome ≡ cannot_read_line (unwrap_or (file_asked asked) [])
+named_line asked name named outcome line_is =
+    line_is ∙ ap (λ (of : Option (List ℕ)). cannot_read_line (unwrap_or of [])) (sym named)
+
 -- the file was not there, or could not be read
 pub runs_absent : (asked : Asked) (name : List ℕ) (next_load : List ℕ → Option File) (counts0 counts1 : LoadCounts) (sizes0 sizes1 : ℕ)
     (in0 : Input) (out0 : Output) (outcome : Outcome) →
@@ -535,8 +568,9 @@ runs_absent asked name next_load counts0 counts1 sizes0 sizes1 in0 out0 outcome 
   loaded = λ _. file_loaded asked name counts0 counts1 Absent named counted;
   answers =
       answers_quiet (told_file asked Absent None) (Some asked) in0 in0 out0 out0 outcome refl
-      (λ to. refused_does to out0 (cannot_read_line (unwrap_or (file_asked asked) [])) 4 outcome
-      (line_is ∙ ap (λ (of : Option (List ℕ)). cannot_read_line (unwrap_or of [])) (sym named)) four);
+      (λ to. refused_does to out0 (cannot_read_line (unwrap_or (file_asked asked) [])) 4 outcome (named_line asked name named outcome line_is)
+      four)
+      (refused_rests in0 out0 (cannot_read_line (unwrap_or (file_asked asked) [])) 4 outcome (named_line asked name named outcome line_is) four);
   usage = λ none. absurd (cc);
 }
 
@@ -553,8 +587,9 @@ runs_failed asked name next_load counts0 counts1 sizes0 sizes1 in0 out0 outcome 
   loaded = λ _. file_loaded asked name counts0 counts1 Failed named counted;
   answers =
       answers_quiet (told_file asked Failed None) (Some asked) in0 in0 out0 out0 outcome refl
-      (λ to. refused_does to out0 (cannot_read_line (unwrap_or (file_asked asked) [])) 4 outcome
-      (line_is ∙ ap (λ (of : Option (List ℕ)). cannot_read_line (unwrap_or of [])) (sym named)) four);
+      (λ to. refused_does to out0 (cannot_read_line (unwrap_or (file_asked asked) [])) 4 outcome (named_line asked name named outcome line_is)
+      four)
+      (refused_rests in0 out0 (cannot_read_line (unwrap_or (file_asked asked) [])) 4 outcome (named_line asked name named outcome line_is) four);
   usage = λ none. absurd (cc);
 }
 
@@ -579,7 +614,8 @@ runs_unloaded asked next_load counts0 counts1 sizes0 sizes1 in0 out0 sizes = let
   loaded = λ not_one. absurd (not_one refl);
   answers =
       answers_quiet (told_file asked load.0 None) (Some asked) in0 in0 out0 out0 (Ended ends.Memory) refl
-      (λ to. memory_does (told_file asked load.0 None [] false) to out0);
+      (λ to. memory_does (told_file asked load.0 None [] false) to out0)
+      (memory_rests (told_file asked load.0 None [] false) in0 out0);
   usage = λ none. absurd (cc);
 }
 
@@ -608,5 +644,8 @@ ran asked next_load counts0 counts1 sizes0 sizes1 in0 in1 out0 out1 err0 err1 ou
   does =
       subst (λ (n : ℕ). CarriesOut (told_words asked runs.file runs.built runs.answers.input runs.answers.read_failed)
       runs.answers.to out0 out1 (line_of_outcome outcome) n) (sym is) runs.answers.does;
+  rests = λ left.
+      subst (λ (n : ℕ). LeavesAlone (told_words asked runs.file runs.built runs.answers.input runs.answers.read_failed) in0 in1 out0 out1
+      (line_of_outcome outcome) n) (sym is) (runs.answers.rests left);
   said = says;
 }

@@ -8,7 +8,8 @@ use Rattle.std.proofs.lemmas.List.{get_or_past}
 use Rattle.std.proofs.lemmas.List.Recursion.{is_count_by}
 use Rattle.std.proofs.lemmas.Option.{none-some}
 use Rattle.fs_ports.specs.Counts.{raised}
-use Rattle.fs_ports.specs.Ports.{Input, Output}
+use Rattle.fs_ports.specs.Ports.{Input, Output, SendDid}
+use Rattle.fs_ports.specs.declared.send.Sent.{Sent}
 use Rattle.fs_ports.specs.Loads.{LoadCounts, Tells, Counted}
 use Rattle.fs_ports.specs.declared.files.Load.{Load as File}
 use Rattle.fs_ports.specs.declared.files.Load.TheVariants.{Absent, Failed}
@@ -26,9 +27,10 @@ use Rattle.fs_machine.specs.declared.entry.Act.TheVariants.{Arrive, Command, Tak
 use Rattle.fs_machine.specs.declared.refusal.Refusal.TheVariants as refusal
 use Rattle.fs_machine.specs.Laws.{state_after}
 use Rattle.fs_machine.specs.Questions.{live}
-use Rattle.fs_machine.specs.Runs.{run_from}
+use Rattle.fs_machine.specs.Runs.{run_from, IsRunFrom}
 use Rattle.fs_machine.specs.Step.{step, refused_as_full, refused_where}
 use Rattle.fs_machine.specs.Turned.{IsJournal}
+use Rattle.fs_machine.proofs.RunLemmas.{run_more}
 use Rattle.fs_conn.specs.declared.end.End.TheVariants as ends
 use Rattle.fs_conn.specs.Ends.{IsFullAt}
 use Rattle.fs_top.specs.declared.conns.Conn.{Conn}
@@ -36,10 +38,13 @@ use Rattle.fs_top.specs.declared.course.Course.{Course}
 use Rattle.fs_top.specs.declared.course.Course.TheVariants.{Run, DoorFault}
 use Rattle.fs_top.specs.declared.outcome.Outcome.TheVariants.{Usage, CannotRead, BadDocument, BadPattern, Printed, Ended}
 use Rattle.fs_top.specs.Doors.{Rose}
-use Rattle.fs_top.specs.Headline.{Headline, IsShutDown, is_halt, status_behind}
+use Rattle.fs_top.specs.Headline.{Headline, IsHalted, IsShutDown, is_halt, status_behind}
 use Rattle.fs_top.specs.Lanes.{Keeps, MayEnter, is_settled}
 use Rattle.fs_top.specs.Runs.{is_memory, not_read, not_built}
-use Rattle.fs_top.specs.Serving.{status_of_course, IsReadAs, IsUnread, IsNoDocument, Concludes, Ends, ServesConfig, no_machine}
+use Rattle.fs_top.specs.Told.{cannot_read_line}
+use Rattle.fs_top.proofs.ShutdownLaws.{shuts_down, halts_by}
+use Rattle.fs_top.specs.Serving.{line_of_course, status_of_course, IsReadAs, IsUnread, IsNoDocument, Concludes, Ends, IsNothing, ServesConfig}
+use Rattle.fs_top.specs.Serving.{TellsUnread, ServesAs, no_machine}
 use Rattle.fs_top.specs.Serving.{unheard, served, ServesBytes, no_config, faulty, unbuilt, configured, Serves, no_file, unread, read, IsStatus}
 
 -- ---- the door
@@ -149,8 +154,26 @@ shut_down config journal settled free unhalted =
     let t = turning (empty config) journal refl both.0 in record {
       entry = t.entry;
       ended = record { before = t.before; behind = t.behind; split = t.split; unstopped = t.unstopped; stopped = t.stopped };
-      other = no_halt t.before t.entry t.behind (subst (λ (entries : List Entry). list_any is_halt entries ≡ false) t.split unhalted);
+      shuts =
+          shuts_down (state_after config t.before) t.entry t.unstopped
+          (subst (λ (u : Switch). is_some u.stopping ≡ true) (run_more (empty config) t.before t.entry) t.stopped)
+          (no_halt t.before t.entry t.behind (subst (λ (entries : List Entry). list_any is_halt entries ≡ false) t.split unhalted));
       empty = none_live s (eqb-true (live s) 0 both.1);
+    }
+
+-- where one of its entries halts the switch, the one that ended it does
+pub halted_down : (config : Configuration) (journal : List Entry) → IsRunFrom (empty config) journal →
+    is_settled (state_after config journal) ≡ true → is_full (state_after config journal) ≡ false → list_any is_halt journal ≡ true →
+    IsHalted config journal
+halted_down config journal run settled free halts =
+    let s = state_after config journal in
+    let both = both_true (is_full s) (is_some s.stopping) (live s == 0) settled free in
+    let t = turning (empty config) journal refl both.0 in record {
+      entry = t.entry;
+      ended = record { before = t.before; behind = t.behind; split = t.split; unstopped = t.unstopped; stopped = t.stopped };
+      halts =
+          halts_by config t.before t.entry t.behind (subst (IsRunFrom (empty config)) t.split run) t.unstopped t.stopped
+          (subst (λ (entries : List Entry). list_any is_halt entries ≡ true) t.split halts);
     }
 
 -- its journal is full, where a machine says so
@@ -199,7 +222,7 @@ concluded config journal (Run (Ended ends.BadLength)) how = absurd how
 concluded config journal (Run (Ended (ends.JournalFull cost limit))) how = filled refl how.full
 concluded config journal (Run (Ended ends.Memory)) how = absurd how
 concluded config journal (Run (Ended (ends.Runaway count))) how = absurd how
-concluded config journal DoorFault how = halted refl how.0 how.1
+concluded config journal DoorFault how = halted refl how.0 how.1.0
 
 abbrev status_for : Bool → Bool → ℕ
 status_for full halts = cond full 8 (cond halts 7 0)
@@ -254,24 +277,29 @@ ends_settled input output may config started doors0 doors1 journal conns ended =
     subst (λ (c : Configuration). is_settled (state_after c journal) ≡ true) (sym ended.same) ended.settled
 
 -- a switch that ran to its end was served
-pub serves_ended : {L : Type 0} (input : L → Input) (output : L → Output) (may : ℕ → Type 0) (config0 config started : Configuration)
-    (doors0 doors1 : ℕ) (course : Course) (journal journal' : List Entry) (conns conns' : List (Conn L)) →
+pub serves_ended : {L O : Type 0} (input : L → Input) (output : L → Output) (may : ℕ → Type 0) (config0 config started : Configuration)
+    (doors0 doors1 : ℕ) (course : Course) (journal journal' : List Entry) (conns conns' : List (Conn L)) (dialers : List O) →
     Ends input output may config doors0 doors1 started journal conns → config ≡ config0 → Concludes started journal course
-    → journal' ≡ journal → conns' ≡ conns → ServesConfig input output may config0 doors0 doors1 course journal' conns'
-serves_ended {L} input output may config0 config started doors0 doors1 course journal journal' conns conns' ended is how same alone =
-    subst (λ (served_all : List (Conn L)). ServesConfig input output may config0 doors0 doors1 course journal' served_all) (sym alone)
-    (subst (λ (log : List Entry). ServesConfig input output may config0 doors0 doors1 course log conns) (sym same)
-    (subst (λ (c : Configuration). ServesConfig input output may c doors0 doors1 course journal conns) is
+    → journal' ≡ journal → conns' ≡ conns → ServesConfig input output may config0 doors0 doors1 course journal' conns' dialers
+serves_ended {L} {O} input output may config0 config started doors0 doors1 course journal journal' conns conns' dialers ended is how same alone =
+    subst (λ (served_all : List (Conn L)). ServesConfig input output may config0 doors0 doors1 course journal' served_all dialers) (sym alone)
+    (subst (λ (log : List Entry). ServesConfig input output may config0 doors0 doors1 course log conns dialers) (sym same)
+    (subst (λ (c : Configuration). ServesConfig input output may c doors0 doors1 course journal conns dialers) is
     (served ended.headline (subst (λ (c : Configuration). Concludes c journal course) ended.same how))))
 
 -- ---- what the layers pass on
 
+-- nothing is handed back
+pub is_nothing : {L O : Type 0} (journal : List Entry) (conns : List (Conn L)) (dialers : List O) → journal ≡ [] → conns ≡ []
+    → dialers ≡ [] → IsNothing journal conns dialers
+is_nothing journal conns dialers none alone undialed = record { no_entries = none; no_conns = alone; no_dialers = undialed }
+
 -- the document was not read
-pub serves_faulty : {L : Type 0} (input : L → Input) (output : L → Output) (may : ℕ → Type 0) (bytes : List ℕ) (fault : DocFault)
-    (sizes0 sizes1 doors0 doors1 : ℕ) (course : Course) (journal : List Entry) (conns : List (Conn L)) →
-    (fault ≡ record { at = 0; kind = Memory }) ⊎ (config_of bytes ≡ Err fault) → course ≡ Run (not_read fault) → journal ≡ []
-    → conns ≡ [] → ServesBytes input output may bytes sizes0 sizes1 doors0 doors1 course journal conns
-serves_faulty input output may bytes fault sizes0 sizes1 doors0 doors1 course journal conns why is none alone =
+pub serves_faulty : {L O : Type 0} (input : L → Input) (output : L → Output) (may : ℕ → Type 0) (bytes : List ℕ) (fault : DocFault)
+    (sizes0 sizes1 doors0 doors1 : ℕ) (course : Course) (journal : List Entry) (conns : List (Conn L)) (dialers : List O) →
+    (fault ≡ record { at = 0; kind = Memory }) ⊎ (config_of bytes ≡ Err fault) → course ≡ Run (not_read fault)
+    → IsNothing journal conns dialers → ServesBytes input output may bytes sizes0 sizes1 doors0 doors1 course journal conns dialers
+serves_faulty input output may bytes fault sizes0 sizes1 doors0 doors1 course journal conns dialers why is none =
     by (is_memory fault.kind) refl is
   where
     reads : is_memory fault.kind ≡ false → (fault ≡ record { at = 0; kind = Memory }) ⊎ (config_of bytes ≡ Err fault) →
@@ -280,36 +308,37 @@ serves_faulty input output may bytes fault sizes0 sizes1 doors0 doors1 course jo
     reads other (inr e) = e
 
     by : (memory : Bool) → is_memory fault.kind ≡ memory → course ≡ Run (cond memory (Ended ends.Memory) (BadDocument fault)) →
-        ServesBytes input output may bytes sizes0 sizes1 doors0 doors1 course journal conns
-    by true kind is = no_config is none alone
-    by false kind is = faulty fault (reads kind why) is none alone
+        ServesBytes input output may bytes sizes0 sizes1 doors0 doors1 course journal conns dialers
+    by true kind is = no_config is none
+    by false kind is = faulty fault (reads kind why) is none
 
 -- its dialplan was not built
-pub serves_unbuilt : {L : Type 0} (input : L → Input) (output : L → Output) (may : ℕ → Type 0) (bytes : List ℕ)
+pub serves_unbuilt : {L O : Type 0} (input : L → Input) (output : L → Output) (may : ℕ → Type 0) (bytes : List ℕ)
     (config : Configuration) (fault : PlanFault) (sizes0 sizes1 doors0 doors1 : ℕ) (course : Course) (journal : List Entry)
-    (conns : List (Conn L)) → config_of bytes ≡ Ok config → IsPlanRefusal config.contexts fault → sizes1 ≡ sizes_after fault sizes0
-    → course ≡ Run (not_built fault) → journal ≡ [] → conns ≡ []
-    → ServesBytes input output may bytes sizes0 sizes1 doors0 doors1 course journal conns
-serves_unbuilt input output may bytes config NoMemory sizes0 sizes1 doors0 doors1 course journal conns reads refusal sizes is none alone =
-    no_config is none alone
-serves_unbuilt input output may bytes config (PatternRefused extension condition) sizes0 sizes1 doors0 doors1 course journal conns reads
-    refusal sizes is none alone =
+    (conns : List (Conn L)) (dialers : List O) → config_of bytes ≡ Ok config → IsPlanRefusal config.contexts fault
+    → sizes1 ≡ sizes_after fault sizes0 → course ≡ Run (not_built fault) → IsNothing journal conns dialers
+    → ServesBytes input output may bytes sizes0 sizes1 doors0 doors1 course journal conns dialers
+serves_unbuilt input output may bytes config NoMemory sizes0 sizes1 doors0 doors1 course journal conns dialers reads refusal sizes is none =
+    no_config is none
+serves_unbuilt input output may bytes config (PatternRefused extension condition) sizes0 sizes1 doors0 doors1 course journal conns dialers
+    reads refusal sizes is none =
     unbuilt config (PatternRefused extension condition) reads
-    (record { refusal = refusal; no_want = λ e. absurd (cc); sizes = sizes }) is none alone
-serves_unbuilt input output may bytes config (PatternTooLarge extension condition) sizes0 sizes1 doors0 doors1 course journal conns reads
-    refusal sizes is none alone =
+    (record { refusal = refusal; no_want = λ e. absurd (cc); sizes = sizes }) is none
+serves_unbuilt input output may bytes config (PatternTooLarge extension condition) sizes0 sizes1 doors0 doors1 course journal conns dialers
+    reads refusal sizes is none =
     unbuilt config (PatternTooLarge extension condition) reads
-    (record { refusal = refusal; no_want = λ e. absurd (cc); sizes = sizes }) is none alone
+    (record { refusal = refusal; no_want = λ e. absurd (cc); sizes = sizes }) is none
 
 -- the file was not there, or could not be read
-pub serves_unread : {L : Type 0} (input : L → Input) (output : L → Output) (may : ℕ → Type 0) (next_load : List ℕ → Option File)
+pub serves_unread : {L O : Type 0} (input : L → Input) (output : L → Output) (may : ℕ → Type 0) (next_load : List ℕ → Option File)
     (name : List ℕ) (file : File) (counts0 counts1 : LoadCounts) (sizes0 sizes1 doors0 doors1 : ℕ) (course : Course)
-    (journal : List Entry) (conns : List (Conn L)) → Tells (next_load name) file → Counted counts0 counts1 file
-    → (file ≡ Absent) ⊎ (file ≡ Failed) → status_of_course course ≡ 4 → journal ≡ [] → conns ≡ []
-    → Serves input output may next_load name counts0 counts1 sizes0 sizes1 doors0 doors1 course journal conns
-serves_unread input output may next_load name file counts0 counts1 sizes0 sizes1 doors0 doors1 course journal conns told counted other four
-    none alone =
-    unread (record { file = file; told = told; loaded = counted; other = other }) four none alone
+    (journal : List Entry) (conns : List (Conn L)) (dialers : List O) → Tells (next_load name) file → Counted counts0 counts1 file
+    → (file ≡ Absent) ⊎ (file ≡ Failed) → status_of_course course ≡ 4 → line_of_course course ≡ cannot_read_line name
+    → IsNothing journal conns dialers
+    → Serves input output may next_load name counts0 counts1 sizes0 sizes1 doors0 doors1 course journal conns dialers
+serves_unread input output may next_load name file counts0 counts1 sizes0 sizes1 doors0 doors1 course journal conns dialers told counted
+    other four line none =
+    unread (record { file = file; told = told; loaded = counted; other = other }) (record { status = four; line = line }) none
 
 -- ---- what the statuses show
 
@@ -323,29 +352,31 @@ data Comes {L : Type 0} (input : L → Input) (output : L → Output) (may : ℕ
       → Comes input output may next_load name counts0 counts1 sizes0 sizes1 doors0 doors1 status journal conns
   has_none : status ≡ 3 → IsNoDocument next_load name sizes0 sizes1 → journal ≡ [] → conns ≡ []
       → Comes input output may next_load name counts0 counts1 sizes0 sizes1 doors0 doors1 status journal conns
-  hears_none : status ≡ 7 → Rose doors0 doors1 → journal ≡ [] → conns ≡ []
+  hears_none : (config : Configuration) → IsReadAs next_load name config → status ≡ 7 → Rose doors0 doors1 → journal ≡ [] → conns ≡ []
       → Comes input output may next_load name counts0 counts1 sizes0 sizes1 doors0 doors1 status journal conns
   serves_all : (config : Configuration) → IsReadAs next_load name config
       → Headline input output (MayEnter may (Rose doors0 doors1)) config journal conns → Concluded config journal status
       → Comes input output may next_load name counts0 counts1 sizes0 sizes1 doors0 doors1 status journal conns
 
-module _ {L : Type 0} (input : L → Input) (output : L → Output) (may : ℕ → Type 0) (next_load : List ℕ → Option File)
+module _ {L O : Type 0} (input : L → Input) (output : L → Output) (may : ℕ → Type 0) (next_load : List ℕ → Option File)
     (name : List ℕ) (counts0 counts1 : LoadCounts) (sizes0 sizes1 doors0 doors1 : ℕ) (journal : List Entry)
-    (conns : List (Conn L)) where
+    (conns : List (Conn L)) (dialers : List O) where
   comes : (course : Course) →
-      Serves input output may next_load name counts0 counts1 sizes0 sizes1 doors0 doors1 course journal conns →
+      Serves input output may next_load name counts0 counts1 sizes0 sizes1 doors0 doors1 course journal conns dialers →
       Comes input output may next_load name counts0 counts1 sizes0 sizes1 doors0 doors1 (status_of_course course) journal conns
-  comes course (no_file is none alone) = wants (ap status_of_course is) none alone
-  comes course (unread of four none alone) = reads_none four of none alone
-  comes course (read bytes told (no_config is none alone)) = wants (ap status_of_course is) none alone
-  comes course (read bytes told (faulty fault reads is none alone)) =
-      has_none (ap status_of_course is) (inl (fault, record { bytes = bytes; told = told; reads = reads })) none alone
-  comes course (read bytes told (unbuilt config fault reads refused is none alone)) =
+  comes course (no_file is none) = wants (ap status_of_course is) none.no_entries none.no_conns
+  comes course (unread of tells none) = reads_none tells.status of none.no_entries none.no_conns
+  comes course (read bytes told (no_config is none)) = wants (ap status_of_course is) none.no_entries none.no_conns
+  comes course (read bytes told (faulty fault reads is none)) =
+      has_none (ap status_of_course is) (inl (fault, record { bytes = bytes; told = told; reads = reads })) none.no_entries none.no_conns
+  comes course (read bytes told (unbuilt config fault reads refused is none)) =
       has_none (ap status_of_course is)
-      (inr (fault, record { config = config; is = record { bytes = bytes; told = told; reads = reads }; refused = refused })) none alone
-  comes course (read bytes told (configured config reads (no_machine is none alone))) = wants (ap status_of_course is) none alone
-  comes course (read bytes told (configured config reads (unheard is rose none alone))) =
-      hears_none (ap status_of_course is) rose none alone
+      (inr (fault, record { config = config; is = record { bytes = bytes; told = told; reads = reads }; refused = refused }))
+      none.no_entries none.no_conns
+  comes course (read bytes told (configured config reads (no_machine is none))) =
+      wants (ap status_of_course is) none.no_entries none.no_conns
+  comes course (read bytes told (configured config reads (unheard is rose none))) =
+      hears_none config (record { bytes = bytes; told = told; reads = reads }) (ap status_of_course is) rose none.no_entries none.no_conns
   comes course (read bytes told (configured config reads (served headline how))) =
       serves_all config (record { bytes = bytes; told = told; reads = reads }) headline (concluded config journal course how)
 
@@ -355,7 +386,7 @@ module _ {L : Type 0} (input : L → Input) (output : L → Output) (may : ℕ �
   headline_by status (wants is none alone) = inl (none, alone)
   headline_by status (reads_none is of none alone) = inl (none, alone)
   headline_by status (has_none is of none alone) = inl (none, alone)
-  headline_by status (hears_none is rose none alone) = inl (none, alone)
+  headline_by status (hears_none config read_as is rose none alone) = inl (none, alone)
   headline_by status (serves_all config is headline how) = inr (config, is, status_is config journal status how, headline)
 
   shut_how : (config : Configuration) (status : ℕ) → Concluded config journal status → status ≡ 0 → IsShutDown config journal
@@ -368,7 +399,7 @@ module _ {L : Type 0} (input : L → Input) (output : L → Output) (may : ℕ �
   shut_by status (wants is none alone) nought = absurd (omega (arith, is, nought))
   shut_by status (reads_none is of none alone) nought = absurd (omega (arith, is, nought))
   shut_by status (has_none is of none alone) nought = absurd (omega (arith, is, nought))
-  shut_by status (hears_none is rose none alone) nought = absurd (omega (arith, is, nought))
+  shut_by status (hears_none config read_as is rose none alone) nought = absurd (omega (arith, is, nought))
   shut_by status (serves_all config is headline how) nought = (config, is, shut_how config status how nought)
 
   full_how : (config : Configuration) (status : ℕ) → Concluded config journal status → status ≡ 8 →
@@ -382,7 +413,7 @@ module _ {L : Type 0} (input : L → Input) (output : L → Output) (may : ℕ �
   full_by status (wants is none alone) eight = absurd (omega (arith, is, eight))
   full_by status (reads_none is of none alone) eight = absurd (omega (arith, is, eight))
   full_by status (has_none is of none alone) eight = absurd (omega (arith, is, eight))
-  full_by status (hears_none is rose none alone) eight = absurd (omega (arith, is, eight))
+  full_by status (hears_none config read_as is rose none alone) eight = absurd (omega (arith, is, eight))
   full_by status (serves_all config is headline how) eight = (config, is, full_how config status how eight)
 
   not_three : (config : Configuration) (status : ℕ) → Concluded config journal status → status ≡ 3 → ⊥
@@ -395,7 +426,7 @@ module _ {L : Type 0} (input : L → Input) (output : L → Output) (may : ℕ �
   document_by status (wants is none alone) three = absurd (omega (arith, is, three))
   document_by status (reads_none is of none alone) three = absurd (omega (arith, is, three))
   document_by status (has_none is of none alone) three = of
-  document_by status (hears_none is rose none alone) three = absurd (omega (arith, is, three))
+  document_by status (hears_none config read_as is rose none alone) three = absurd (omega (arith, is, three))
   document_by status (serves_all config is headline how) three = absurd (not_three config status how three)
 
   not_four : (config : Configuration) (status : ℕ) → Concluded config journal status → status ≡ 4 → ⊥
@@ -408,7 +439,7 @@ module _ {L : Type 0} (input : L → Input) (output : L → Output) (may : ℕ �
   unread_by status (wants is none alone) four = absurd (omega (arith, is, four))
   unread_by status (reads_none is of none alone) four = of
   unread_by status (has_none is of none alone) four = absurd (omega (arith, is, four))
-  unread_by status (hears_none is rose none alone) four = absurd (omega (arith, is, four))
+  unread_by status (hears_none config read_as is rose none alone) four = absurd (omega (arith, is, four))
   unread_by status (serves_all config is headline how) four = absurd (not_four config status how four)
 
   halted_how : (config : Configuration) (status : ℕ) → Headline input output (MayEnter may (Rose doors0 doors1)) config journal conns →
@@ -418,12 +449,12 @@ module _ {L : Type 0} (input : L → Input) (output : L → Output) (may : ℕ �
   halted_how config status headline (halted is free halts) seven = halt_among (Rose doors0 doors1) may journal halts headline.allowed
 
   door_by : (status : ℕ) → Comes input output may next_load name counts0 counts1 sizes0 sizes1 doors0 doors1 status journal conns →
-      status ≡ 7 → Rose doors0 doors1
+      status ≡ 7 → (c : Configuration) × IsReadAs next_load name c × Rose doors0 doors1
   door_by status (wants is none alone) seven = absurd (omega (arith, is, seven))
   door_by status (reads_none is of none alone) seven = absurd (omega (arith, is, seven))
   door_by status (has_none is of none alone) seven = absurd (omega (arith, is, seven))
-  door_by status (hears_none is rose none alone) seven = rose
-  door_by status (serves_all config is headline how) seven = halted_how config status headline how seven
+  door_by status (hears_none config read_as is rose none alone) seven = (config, read_as, rose)
+  door_by status (serves_all config is headline how) seven = (config, is, halted_how config status headline how seven)
 
   codes_how : (config : Configuration) (status : ℕ) → Concluded config journal status → IsStatus status
   codes_how config status (shut is free unhalted down) = (0, omega arith, sym is)
@@ -435,11 +466,11 @@ module _ {L : Type 0} (input : L → Input) (output : L → Output) (may : ℕ �
   codes_by status (wants is none alone) = (1, omega arith, sym is)
   codes_by status (reads_none is of none alone) = (3, omega arith, sym is)
   codes_by status (has_none is of none alone) = (2, omega arith, sym is)
-  codes_by status (hears_none is rose none alone) = (4, omega arith, sym is)
+  codes_by status (hears_none config read_as is rose none alone) = (4, omega arith, sym is)
   codes_by status (serves_all config is headline how) = codes_how config status how
 
   module _ (course : Course)
-      (serves : Serves input output may next_load name counts0 counts1 sizes0 sizes1 doors0 doors1 course journal conns) where
+      (serves : Serves input output may next_load name counts0 counts1 sizes0 sizes1 doors0 doors1 course journal conns dialers) where
     -- nothing was entered, or the headline holds
     pub serves_headline : ((journal ≡ []) × (conns ≡ [])) ⊎ ((c : Configuration) × IsReadAs next_load name c
         × (status_of_course course ≡ status_behind c journal)
@@ -459,7 +490,7 @@ module _ {L : Type 0} (input : L → Input) (output : L → Output) (may : ℕ �
     serves_unread_file four = unread_by (status_of_course course) (comes course serves) four
 
     -- status 7
-    pub serves_door : status_of_course course ≡ 7 → Rose doors0 doors1
+    pub serves_door : status_of_course course ≡ 7 → (c : Configuration) × IsReadAs next_load name c × Rose doors0 doors1
     serves_door seven = door_by (status_of_course course) (comes course serves) seven
 
     -- status 8
@@ -470,3 +501,14 @@ module _ {L : Type 0} (input : L → Input) (output : L → Output) (may : ℕ �
     -- each status
     pub serves_codes : IsStatus (status_of_course course)
     serves_codes = codes_by (status_of_course course) (comes course serves)
+
+-- all of it
+pub serves_as : {L O : Type 0} (input : L → Input) (output : L → Output) (may : ℕ → Type 0) (next_load : List ℕ → Option File)
+    (name : List ℕ) (counts0 counts1 : LoadCounts) (sizes0 sizes1 doors0 doors1 : ℕ) (err0 err1 : Output) (code : ℕ)
+    (journal : List Entry) (conns : List (Conn L)) (dialers : List O) (course : Course) (sent : Sent) →
+    Serves input output may next_load name counts0 counts1 sizes0 sizes1 doors0 doors1 course journal conns dialers
+    → code ≡ status_of_course course → SendDid err0 err1 sent (line_of_course course)
+    → ServesAs input output may next_load name counts0 counts1 sizes0 sizes1 doors0 doors1 err0 err1 code journal conns dialers
+serves_as input output may next_load name counts0 counts1 sizes0 sizes1 doors0 doors1 err0 err1 code journal conns dialers course sent serves
+    code_is said =
+    record { course = course; sent = sent; serves = serves; code_is = code_is; said = said }

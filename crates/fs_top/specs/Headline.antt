@@ -15,6 +15,7 @@ use Rattle.fs_conn.specs.declared.end.End.{End}
 use Rattle.fs_conn.specs.Talks.{Told}
 use Rattle.fs_top.specs.declared.conns.Conn.{Conn}
 use Rattle.fs_top.specs.Lanes.{number_of}
+use Rattle.fs_top.specs.Shutdowns.{ShutsDown}
 
 -- Over this journal a connection, whose link was new when it came, came to its end so: the blocks that were read are its commands, each once
 -- and in their order, and then others; what was written is a front of the bytes of its frames; and its end has its cause.
@@ -54,9 +55,15 @@ pub record EndedBy (config : Configuration) (journal : List Entry) (entry : Entr
 abbrev pub status_behind : Configuration → List Entry → ℕ
 status_behind config journal = if is_full (state_after config journal) then 8 else (if list_any is_halt journal then 7 else 0)
 
--- the switch was ended by an entry that is no halt, and no slot holds a channel
+-- the switch was ended by an entry that halts it
+pub record IsHalted (config : Configuration) (journal : List Entry) : Type 0 where
+  pub entry : Entry
+  pub ended : EndedBy config journal entry
+  pub halts : is_halt entry ≡ true
+
+-- the switch was ended by an entry that runs `fsctl shutdown`, and no slot holds a channel
 pub record IsShutDown (config : Configuration) (journal : List Entry) : Type 0 where
   pub entry : Entry
   pub ended : EndedBy config journal entry
-  pub other : is_halt entry ≡ false
+  pub shuts : ShutsDown entry.act (state_after config ended.before)
   pub empty : (slot : ℕ) → chan_at (state_after config journal) slot ≡ None

@@ -7,5 +7,6 @@ pub mod Reading
 pub mod Lanes
 pub mod Standing
 pub mod Doors
+pub mod Shutdowns
 pub mod Headline
 pub mod Serving

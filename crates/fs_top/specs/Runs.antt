@@ -97,6 +97,20 @@ pub data CarriesOut (told : Told) (in1 : Input) (out0 out1 : Output) (line : Lis
 abbrev pub CarriesOutAs : Told → Input → Output → Output → Outcome → Type 0
 CarriesOutAs told in1 out0 out1 outcome = CarriesOut told in1 out0 out1 (line_of_outcome outcome) (status_of_outcome outcome)
 
+-- the link is as it was, and the line and the status are those told, or memory was wanting
+pub record LeavesAlone (told : Told) (in0 in1 : Input) (out0 out1 : Output) (line : List ℕ) (status : ℕ) : Type 0 where
+  pub input : in1 ≡ in0
+  pub output : out1 ≡ out0
+  pub answer : ((line ≡ told.line) × (status ≡ told.status)) ⊎ ((line ≡ memory_line) × (status ≡ 1))
+
+-- so it is where that is told
+abbrev pub RestsIfTold : Told → Input → Input → Output → Output → List ℕ → ℕ → Type 0
+RestsIfTold told in0 in1 out0 out1 line status = IsTrue told.untouched → LeavesAlone told in0 in1 out0 out1 line status
+
+-- the same by an outcome
+abbrev pub RestsAs : Told → Input → Input → Output → Output → Outcome → Type 0
+RestsAs told in0 in1 out0 out1 outcome = RestsIfTold told in0 in1 out0 out1 (line_of_outcome outcome) (status_of_outcome outcome)
+
 -- a pattern of these contexts was refused, for its own sake and not for want of memory
 pub record RefusesPattern (contexts : List Context) (fault : PlanFault) (sizes0 sizes1 : ℕ) : Type 0 where
   pub refusal : IsPlanRefusal contexts fault
@@ -135,6 +149,7 @@ pub record Answers (told : List ℕ → Bool → Told) (asked : Option Asked) (i
   pub has_read : HasRead from to input read_failed
   pub quiet : ReadsNothing asked → in1 ≡ in0
   pub does : CarriesOutAs (told input read_failed) to out0 out1 outcome
+  pub rests : RestsAs (told input read_failed) in0 in1 out0 out1 outcome
 
 -- what a load came to, over a switch of this configuration
 pub record Loads (c : Configuration) (count start : ℕ) (out0 out1 : Output) (outcome : Outcome) : Type 0 where
@@ -226,6 +241,7 @@ pub record Ran (asked : Option Asked) (next_load : List ℕ → Option File) (co
   pub has_read : HasRead from to input read_failed
   pub quiet : ReadsNothing asked → in1 ≡ in0
   pub does : CarriesOut (told_words asked file built input read_failed) to out0 out1 line status
+  pub rests : RestsIfTold (told_words asked file built input read_failed) in0 in1 out0 out1 line status
   pub said : SendDid err0 err1 sent line
 
 -- the file that is asked for is read as this configuration

@@ -19,12 +19,13 @@ use Rattle.fs_state.specs.Counts.{Tallies}
 use Rattle.fs_top.specs.Documents.{check_text, hunt_text}
 use Rattle.fs_top.specs.Counted.{counts_text}
 
--- the bytes written, the line on standard error, the status, and whether the input was read to its end
+-- the bytes written, the line on standard error, the status, whether the input was read to its end, and whether the link is left alone
 pub record Told : Type 0 where
   pub output : List ℕ
   pub line : List ℕ
   pub status : ℕ
   pub at_end : Bool
+  pub untouched : Bool
 
 -- what the words ask for: something of a file, or so many calls that are made from a number on
 pub data Asked : Type 0 where
@@ -122,9 +123,9 @@ write_fault_line = codes "fsw: write fault\n"
 unfoldable pub memory_line : List ℕ
 memory_line = codes "fsw: out of memory\n"
 
--- a line and a status, and nothing on the output
+-- a line and a status, and nothing is done with the link
 abbrev pub refused : List ℕ → ℕ → Told
-refused line status = record { output = []; line = line; status = status; at_end = false }
+refused line status = record { output = []; line = line; status = status; at_end = false; untouched = true }
 
 -- the line of a refused pattern
 abbrev pub pattern_line : PlanFault → List ℕ
@@ -181,6 +182,7 @@ told_play c p = record {
   line = unwrap_or (option_map line_of_end p.end) [];
   status = unwrap_or (option_map status_of_end p.end) 0;
   at_end = unwrap_or (option_map is_eof p.end) false;
+  untouched = false;
 }
 
 -- what is printed of so many calls at an end: what was counted where they all were made and the connection left, and nothing otherwise
@@ -195,11 +197,12 @@ told_calls count p = record {
   line = unwrap_or (option_map line_of_end p.end) [];
   status = unwrap_or (option_map status_of_end p.end) 0;
   at_end = unwrap_or (option_map is_eof p.end) false;
+  untouched = false;
 }
 
 -- this is printed, and nothing is read
 abbrev pub told_text : List ℕ → Told
-told_text output = record { output = output; line = []; status = 0; at_end = false }
+told_text output = record { output = output; line = []; status = 0; at_end = false; untouched = false }
 
 -- what is answered over a configuration
 abbrev pub told_asked : Asked → Configuration → List ℕ → Bool → Told

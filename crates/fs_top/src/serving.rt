@@ -4,7 +4,7 @@ ghost use Rattle.std.specs.Prelude.{◌≡◌, ◌⊎◌, ◌^◌, [], ◌∷◌
 ghost use Rattle.std.specs.List.{list_any};
 ghost use Rattle.fs_doc.specs.Reading.{Configuration};
 ghost use Rattle.fs_state.specs.Switch.{is_full};
-ghost use Rattle.fs_machine.specs.Laws.{state_after};
+ghost use Rattle.fs_machine.specs.Laws.{IsRun, state_after};
 ghost use Rattle.fs_top.specs.declared.course.Course.TheVariants as courses;
 ghost use Rattle.fs_top.specs.declared.outcome.Outcome.TheVariants as outcomes;
 ghost use Rattle.fs_top.specs.Dials.{vain_dials, vain_in, AreBounded};
@@ -124,10 +124,20 @@ pub fn serve<
 ) -> Served<D::Link, O>
     requires { spec.is_serve words.now ≡ true }
 
-    // Either nothing was entered; or the file is read as a configuration, and the journal is a run of it from the empty
-    // switch, each connection that came in it was served once, and is told over it: its commands stand in it once, in
-    // the order read, and the bytes written to it are a front of its frames. Each moment is one that the clock may
-    // tell, and the door failed where an entry halts the switch.
+    // It came to one course: memory was wanting, the file could not be read, its document has a fault, a pattern of
+    // that was refused, the door did not listen, and then nothing is handed back; or its configuration was served. The
+    // status is that of the course, and its line was printed on `err`, or a front of it.
+    ensures told { spec.ServesAs D.Link.input D.Link.output (C.tells clock.now)
+        (F.next_load files.old) (spec.file_served words.now) (F.counts files.old) (F.counts files.new)
+        (F.sizes files.old) (F.sizes files.new) (D.door_faults door.old) (D.door_faults door.new)
+        (E.output err.old) (E.output err.new) result.status.code
+        result.journal.entries result.conns.items result.dialers.items }
+
+    // Either no entry and no connection is handed back, since nothing was served or memory was wanting; or the file is
+    // read as a configuration, and the journal is a run of it from the empty switch, each connection that came in it
+    // was served once, and is told over it: its commands stand in it once, in the order read, and the bytes written to
+    // it are a front of its frames. Each moment is one that the clock may tell, and the door failed where an entry
+    // halts the switch.
     ensures headline { ((result.journal.entries ≡ []) × (result.conns.items ≡ [])) ⊎ ((c : Configuration)
         × spec.IsReadAs (F.next_load files.old) (spec.file_served words.now) c
         × (result.status.code ≡ status_behind c result.journal.entries)
@@ -148,7 +158,9 @@ pub fn serve<
         (F.sizes files.old) (F.sizes files.new) }
     ensures unreadable { result.status.code ≡ 4 → spec.IsUnread (F.next_load files.old) (spec.file_served words.now)
         (F.counts files.old) (F.counts files.new) }
-    ensures door { result.status.code ≡ 7 → Rose (D.door_faults door.old) (D.door_faults door.new) }
+    ensures door { result.status.code ≡ 7 → (c : Configuration)
+        × spec.IsReadAs (F.next_load files.old) (spec.file_served words.now) c
+        × Rose (D.door_faults door.old) (D.door_faults door.new) }
     ensures full { result.status.code ≡ 8 → (c : Configuration)
         × spec.IsReadAs (F.next_load files.old) (spec.file_served words.now) c
         × (is_full (state_after c result.journal.entries) ≡ true) }
@@ -160,9 +172,6 @@ pub fn serve<
         → spec.IsServable (F.next_load files.old) (spec.file_served words.now) c
         → spec.NoneFailed (F.sizes files.old) (F.sizes files.new) (D.door_faults door.old) (D.door_faults door.new)
         → spec.IsGoodStatus result.status.code }
-
-    // The line of what it came to was printed on `err`, or a front of it.
-    ensures said { spec.Says (E.output err.old) (E.output err.new) result.status.code }
 {
     serve_with(rt, alloc, words, files, door, dialer, clock, err, &NoGates)
 }
@@ -189,10 +198,20 @@ pub fn serve_with<
 ) -> Served<D::Link, O>
     requires { spec.is_serve words.now ≡ true }
 
-    // Either nothing was entered; or the file is read as a configuration, and the journal is a run of it from the empty
-    // switch, each connection that came in it was served once, and is told over it: its commands stand in it once, in
-    // the order read, and the bytes written to it are a front of its frames. Each moment is one that the clock may
-    // tell, and the door failed where an entry halts the switch.
+    // It came to one course: memory was wanting, the file could not be read, its document has a fault, a pattern of
+    // that was refused, the door did not listen, and then nothing is handed back; or its configuration was served. The
+    // status is that of the course, and its line was printed on `err`, or a front of it.
+    ensures told { spec.ServesAs D.Link.input D.Link.output (C.tells clock.now)
+        (F.next_load files.old) (spec.file_served words.now) (F.counts files.old) (F.counts files.new)
+        (F.sizes files.old) (F.sizes files.new) (D.door_faults door.old) (D.door_faults door.new)
+        (E.output err.old) (E.output err.new) result.status.code
+        result.journal.entries result.conns.items result.dialers.items }
+
+    // Either no entry and no connection is handed back, since nothing was served or memory was wanting; or the file is
+    // read as a configuration, and the journal is a run of it from the empty switch, each connection that came in it
+    // was served once, and is told over it: its commands stand in it once, in the order read, and the bytes written to
+    // it are a front of its frames. Each moment is one that the clock may tell, and the door failed where an entry
+    // halts the switch.
     ensures headline { ((result.journal.entries ≡ []) × (result.conns.items ≡ [])) ⊎ ((c : Configuration)
         × spec.IsReadAs (F.next_load files.old) (spec.file_served words.now) c
         × (result.status.code ≡ status_behind c result.journal.entries)
@@ -213,7 +232,9 @@ pub fn serve_with<
         (F.sizes files.old) (F.sizes files.new) }
     ensures unreadable { result.status.code ≡ 4 → spec.IsUnread (F.next_load files.old) (spec.file_served words.now)
         (F.counts files.old) (F.counts files.new) }
-    ensures door { result.status.code ≡ 7 → Rose (D.door_faults door.old) (D.door_faults door.new) }
+    ensures door { result.status.code ≡ 7 → (c : Configuration)
+        × spec.IsReadAs (F.next_load files.old) (spec.file_served words.now) c
+        × Rose (D.door_faults door.old) (D.door_faults door.new) }
     ensures full { result.status.code ≡ 8 → (c : Configuration)
         × spec.IsReadAs (F.next_load files.old) (spec.file_served words.now) c
         × (is_full (state_after c result.journal.entries) ≡ true) }
@@ -225,9 +246,6 @@ pub fn serve_with<
         → spec.IsServable (F.next_load files.old) (spec.file_served words.now) c
         → spec.NoneFailed (F.sizes files.old) (F.sizes files.new) (D.door_faults door.old) (D.door_faults door.new)
         → spec.IsGoodStatus result.status.code }
-
-    // The line of what it came to was printed on `err`, or a front of it.
-    ensures said { spec.Says (E.output err.old) (E.output err.new) result.status.code }
 {
     let name = file_of(words);
     let ran = serve_file(rt, alloc, name, files, door, dialer, clock, gates);
@@ -279,7 +297,8 @@ fn serve_file<
 ) -> Ran<'a, D::Link, O>
     ensures serves { spec.Serves D.Link.input D.Link.output (C.tells clock.now) (F.next_load files.old) name.now
         (F.counts files.old) (F.counts files.new) (F.sizes files.old) (F.sizes files.new)
-        (D.door_faults door.old) (D.door_faults door.new) result.course result.journal.entries result.conns.items }
+        (D.door_faults door.old) (D.door_faults door.new) result.course result.journal.entries result.conns.items
+        result.dialers.items }
     ensures dialers { AreBounded (λ slot. vain_dials slot result.journal.entries) (O.dial_faults dialer.now)
         (map O.dial_faults result.dialers.items) }
 {
@@ -322,7 +341,7 @@ fn serve_bytes<
 ) -> Ran<'a, D::Link, O>
     ensures serves { spec.ServesBytes D.Link.input D.Link.output (C.tells clock.now) bytes.now
         (F.sizes files.old) (F.sizes files.new) (D.door_faults door.old) (D.door_faults door.new)
-        result.course result.journal.entries result.conns.items }
+        result.course result.journal.entries result.conns.items result.dialers.items }
     ensures dialers { AreBounded (λ slot. vain_dials slot result.journal.entries) (O.dial_faults dialer.now)
         (map O.dial_faults result.dialers.items) }
 {
@@ -355,7 +374,8 @@ fn serve_config<
 ) -> Ran<'a, D::Link, O>
     requires { plan ≡ config.contexts }
     ensures serves { spec.ServesConfig D.Link.input D.Link.output (C.tells clock.now) config
-        (D.door_faults door.old) (D.door_faults door.new) result.course result.journal.entries result.conns.items }
+        (D.door_faults door.old) (D.door_faults door.new) result.course result.journal.entries result.conns.items
+        result.dialers.items }
     ensures dialers { AreBounded (λ slot. vain_dials slot result.journal.entries) (O.dial_faults dialer.now)
         (map O.dial_faults result.dialers.items) }
 {
@@ -393,7 +413,8 @@ fn serve_machine<
 ) -> Ran<'a, D::Link, O>
     requires { machine.journal ≡ [] }
     ensures serves { spec.ServesConfig D.Link.input D.Link.output (C.tells clock.now) machine.config
-        (D.door_faults door.old) (D.door_faults door.new) result.course result.journal.entries result.conns.items }
+        (D.door_faults door.old) (D.door_faults door.new) result.course result.journal.entries result.conns.items
+        result.dialers.items }
     ensures dialers { AreBounded (λ slot. vain_dials slot result.journal.entries) (O.dial_faults dialer.now)
         (map O.dial_faults result.dialers.items) }
 {
@@ -526,7 +547,8 @@ fn conclude<'a, L: Link, O: Drop>(machine: Machine, gathered: Gathered<L, O>) ->
 
 // How a server ended: its journal is full, or an entry halted the switch, or a shutdown ended it.
 fn course_behind<'a>(machine: &Machine) -> Course<'a>
-    requires { is_settled (state_of machine.now) ≡ true }
+    requires run { IsRun machine.now.config machine.now.journal }
+    requires settled { is_settled (state_of machine.now) ≡ true }
     ensures { spec.Concludes machine.now.config machine.now.journal result }
 {
     match machine.full() {
@@ -539,6 +561,7 @@ fn course_behind<'a>(machine: &Machine) -> Course<'a>
 
 // How a server ended whose journal is not full.
 fn course_of_stop<'a>(machine: &Machine) -> Course<'a>
+    requires run { IsRun machine.now.config machine.now.journal }
     requires settled { is_settled (state_of machine.now) ≡ true }
     requires free { is_full (state_of machine.now) ≡ false }
     ensures { spec.Concludes machine.now.config machine.now.journal result }

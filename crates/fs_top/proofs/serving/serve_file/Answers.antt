@@ -1,7 +1,7 @@
 use Rattle.std.proofs.Common.{ap, refl, inl, inr}
 use Rattle.fs_ports.specs.declared.files.Load.TheVariants.{Absent, Failed}
-use Rattle.fs_top.specs.Serving.{no_file, read, status_of_course}
-use Rattle.fs_top.proofs.ServeLaws.{serves_unread}
+use Rattle.fs_top.specs.Serving.{no_file, read, line_of_course, status_of_course}
+use Rattle.fs_top.proofs.ServeLaws.{is_nothing, serves_unread}
 use Rattle.fs_top.proofs.serving.serve_file.Goals as goal
 
 pub returns-clause-serves : goal.returns-clause-serves
@@ -12,15 +12,18 @@ returns-clause-serves g c =
 pub returns-in-Ok-Absent-clause-serves : goal.returns-in-Ok-Absent-clause-serves
 returns-in-Ok-Absent-clause-serves g c =
     let loaded = rw c.in-Ok-Absent.field-0-is at c.in-Ok-Absent.ensures in
-    serves_unread _ _ _ _ _ Absent _ _ _ _ _ _ _ _ _ loaded.told loaded.counts (inl refl)
-    (ap status_of_course c.nothing.ensures.course) c.nothing.ensures.journal c.nothing.ensures.conns
+    serves_unread _ _ _ _ _ Absent _ _ _ _ _ _ _ _ _ _ loaded.told loaded.counts (inl refl)
+    (ap status_of_course c.nothing.ensures.course) (ap line_of_course c.nothing.ensures.course)
+    (is_nothing _ _ _ c.nothing.ensures.journal c.nothing.ensures.conns c.nothing.ensures.dialers)
 
 pub returns-in-Ok-Failed-clause-serves : goal.returns-in-Ok-Failed-clause-serves
 returns-in-Ok-Failed-clause-serves g c =
     let loaded = rw c.in-Ok-Failed.field-0-is at c.in-Ok-Failed.ensures in
-    serves_unread _ _ _ _ _ Failed _ _ _ _ _ _ _ _ _ loaded.told loaded.counts (inr refl)
-    (ap status_of_course c.nothing-in-Ok-Failed.ensures.course) c.nothing-in-Ok-Failed.ensures.journal
-    c.nothing-in-Ok-Failed.ensures.conns
+    let nothing = c.nothing-in-Ok-Failed.ensures in
+    serves_unread _ _ _ _ _ Failed _ _ _ _ _ _ _ _ _ _ loaded.told loaded.counts (inr refl) (ap status_of_course nothing.course)
+    (ap line_of_course nothing.course) (is_nothing _ _ _ nothing.journal nothing.conns nothing.dialers)
 
 pub returns-in-Err-clause-serves : goal.returns-in-Err-clause-serves
-returns-in-Err-clause-serves g c = no_file c.without_memory.ensures.course c.without_memory.ensures.journal c.without_memory.ensures.conns
+returns-in-Err-clause-serves g c =
+    no_file c.without_memory.ensures.course
+    (is_nothing _ _ _ c.without_memory.ensures.journal c.without_memory.ensures.conns c.without_memory.ensures.dialers)

@@ -2,11 +2,13 @@ use Rattle.std.proofs.Common.{List, map, sym, subst}
 use Rattle.fs_machine.specs.declared.entry.Entry.{Entry}
 use Rattle.fs_top.specs.Dials.{vain_dials, AreBounded}
 use Rattle.fs_top.specs.Serving.{no_machine}
+use Rattle.fs_top.proofs.ServeLaws.{is_nothing}
 use Rattle.fs_top.proofs.serving.serve_machine.Goals as goal
 
 pub returns-in-Err-clause-serves : goal.returns-in-Err-clause-serves
 returns-in-Err-clause-serves g c =
-    no_machine c.without_memory-in-Err.ensures.course c.without_memory-in-Err.ensures.journal c.without_memory-in-Err.ensures.conns
+    let nothing = c.without_memory-in-Err.ensures in
+    no_machine nothing.course (is_nothing _ _ _ nothing.journal nothing.conns nothing.dialers)
 
 pub returns-in-Ok-serve_book-clause-dialers : goal.returns-in-Ok-serve_book-clause-dialers
 returns-in-Ok-serve_book-clause-dialers g c =

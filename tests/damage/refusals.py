@@ -13,7 +13,7 @@ def tallies(programs):
     refuser = Refuser()
     return itertools.chain(
         refused_runs.all_tried(refuser, programs.program),
-        (refused_entries.tried(refuser, programs.plays) for _ in range(1)),
+        map(refused_entries.tried, [refuser], [programs.plays]),
         refused_journals.all_tried(refuser, programs),
         (refused_servers.tried(refuser, programs.program, dials) for dials in (False, True)),
     )

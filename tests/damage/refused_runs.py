@@ -76,3 +76,7 @@ def tried(refuser, program, row):
             end = "wanted memory" if ran.status == 1 else "did all"
             tally.add(f"call {at}{' and on' if goes_on else ''}", end, fault_of(ran, whole), ran.seconds)
     return tally
+
+
+def all_tried(refuser, program):
+    return (tried(refuser, program, row) for row in rows())

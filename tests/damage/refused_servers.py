@@ -49,10 +49,13 @@ exit
 IDENTIFIER = re.compile(rb"46530000-0000-8000-8000-[0-9a-f]{12}")
 
 # Whoever works a slot sleeps for eight seconds and more behind a refusal, if nobody wakes it. Longer is stuck.
-SECONDS = 30
+SECONDS = 12
 
 # What takes longer than this is told.
 LATE = 2
+
+# Where no call is made for so long, the server is at rest.
+QUIET = 0.05
 
 
 @dataclass
@@ -82,6 +85,7 @@ class Rows:
         self.refuser = refuser
         self.program = program
         self.dials = dials
+        self.begun = 0
         self.port = free_port()
         self.controller = socket.create_server(("127.0.0.1", 0))
         self.controller.settimeout(0.02)
@@ -94,9 +98,18 @@ class Rows:
                 server.ends(SECONDS)
                 return Told([], False, server.process.returncode, server.fault((0, 1)))
             probe.close()
+            self.rest()
             read, stuck = self.talk(server)
             status = server.ends(SECONDS)
             return Told(read, stuck or status is None, status, server.fault((0, 1)) if status is not None else None)
+
+    def rest(self):
+        """Waits until all threads have begun: then no more calls are made."""
+        before, calls = -1, self.refuser.calls()
+        while calls != before:
+            time.sleep(QUIET)
+            before, calls = calls, self.refuser.calls()
+        self.begun = calls
 
     def talk(self, server):
         ends = [server.end(), server.end()]
@@ -156,7 +169,8 @@ def tried(refuser, program, dials):
     """Refuses the calls in turn until several in a row are behind the last one."""
     rows = Rows(refuser, program, dials)
     whole = rows.serve(0)
-    tally = Tally(f"serve, {'a controller' if dials else 'two links'}, {refuser.calls()} calls, status {whole.status}")
+    name = "a controller" if dials else "two links"
+    tally = Tally(f"serve, {name}, {refuser.calls()} calls, {rows.begun} of them to begin, status {whole.status}")
     at, behind = 1, 0
     while behind < 5:
         begun = time.monotonic()

@@ -1,4 +1,5 @@
 pub mod AskedLemmas
+pub mod ChunkLemmas
 pub mod SubscriptionLemmas
 pub mod SetLemmas
 pub mod SieveLemmas

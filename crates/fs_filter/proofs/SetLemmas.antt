@@ -65,8 +65,8 @@ name_is_taken asked s name =
 same_text : (one other : Text) → bytes_eq one other ≡ true → one ≡ other
 same_text one other same = (bytes_eq-Decides one other).0 same
 
--- a text is among these and the new ones
-text_is_added : (texts known : List Text) (text : Text) →
+-- a text is among these with the new ones where it is among either
+pub text_is_added : (texts known : List Text) (text : Text) →
     has_text (with_texts known texts) text ≡ (has_text known text || has_text texts text)
 text_is_added [] known text = sym (or-false (has_text known text))
 text_is_added (new ∷ texts) known text =

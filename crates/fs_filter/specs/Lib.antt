@@ -1,3 +1,4 @@
 pub mod Asked
+pub mod Chunks
 pub mod Subscriptions
 pub mod Laws

@@ -1,17 +1,21 @@
 //! Filters over the headers of events.
 
-ghost use Rattle.std.specs.Prelude.{◌≡◌, [], IfOk, OnOk, OnErr};
+ghost use Rattle.std.specs.Prelude.{◌≡◌, [], true, IfOk, OnOk, OnErr};
 ghost use Rattle.fs_filter.specs.Asked.{lent};
+ghost use Rattle.fs_filter.specs.Chunks.{joined};
 ghost use Rattle.fs_filter.specs.Subscriptions as spec;
 
-use fs_text::{Memory, Txt};
+use crate::chunks::Chunks;
+use crate::key::Key;
+use fs_text::Memory;
+use indexmap::IndexSet;
 use std::alloc::Global;
 use std::marker::Model;
+use std::sync::Arc;
 
 /// Headers with the values that they are to have, in the order in which they were added.
-#[derive(Drop)]
 pub(crate) struct Filters {
-    pairs: Vec<(Txt, Txt)>,
+    pairs: IndexSet<(Key, Key)>,
 }
 
 impl Model for Filters {
@@ -19,7 +23,13 @@ impl Model for Filters {
 
     ghost Value = { Filters };
 
-    ghost view = { λ f. f.pairs.items };
+    ghost view = { λ f. f.pairs.keys };
+}
+
+impl Drop for Filters {
+    fn drop(self) {
+        let Filters { pairs: _pairs } = self;
+    }
 }
 
 impl Filters {
@@ -28,15 +38,15 @@ impl Filters {
         ensures { result ≡ [] }
     {
         Filters {
-            pairs: Vec::new(alloc),
+            pairs: IndexSet::new(alloc),
         }
     }
 
     /// The same once more; the texts share their bytes.
-    pub fn copy(&self, alloc: Global) -> Result<Filters, Memory>
+    pub fn copy(&self) -> Result<Filters, Memory>
         ensures { IfOk result (λ filters. filters ≡ self.now) }
     {
-        let pairs = copied(alloc, self.pairs.as_slice())?;
+        let pairs = self.pairs.clone()?;
         Ok(Filters { pairs })
     }
 
@@ -45,10 +55,8 @@ impl Filters {
         ensures ok { OnOk result (self.new ≡ spec.with_filter self.old (header.now, value.now)) }
         ensures err { OnErr result (self.new ≡ self.old) }
     {
-        if !has_pair(self.pairs.as_slice(), header, value) {
-            let filter = (Txt::of(alloc, header)?, Txt::of(alloc, value)?);
-            self.pairs.push(filter)?;
-        }
+        let filter = (Key::of(alloc, header)?, Key::of(alloc, value)?);
+        self.pairs.insert(filter)?;
         Ok(())
     }
 
@@ -57,39 +65,122 @@ impl Filters {
         ensures rest { self.new ≡ spec.without_filter self.old header.now (lent value.entry) }
         ensures found { result ≡ spec.has_filter self.old header.now (lent value.entry) }
     {
-        let found = self.pairs.iter().any(|pair| is_meant(header, value, pair));
+        let found = has_meant(self.pairs.as_slice(), header, value);
         self.pairs.retain(|pair| !is_meant(header, value, pair));
         found
     }
 
     /// The filters, in order.
-    pub fn pairs(&self) -> &[(Txt, Txt)]
+    pub fn pairs(&self) -> &[(Key, Key)]
         ensures { result.now ≡ self.now }
     {
         self.pairs.as_slice()
     }
-}
 
-// The pairs once more; their bytes are shared.
-fn copied(alloc: Global, pairs: &[(Txt, Txt)]) -> Result<Vec<(Txt, Txt)>, Memory>
-    ensures { IfOk result (λ all. all.items ≡ pairs.now) }
-{
-    let mut all = Vec::with_capacity(alloc, pairs.len())?;
-    for pair in pairs {
-        all.push((pair.0.copy()?, pair.1.copy()?))?;
+    // The filters as a set.
+    fn into_set(self) -> IndexSet<(Key, Key)>
+        ensures { result.keys ≡ self }
+    {
+        let Filters { pairs } = self;
+        pairs
     }
-    Ok(all)
 }
 
-// Whether a header with this value is among these.
-fn has_pair(pairs: &[(Txt, Txt)], header: &[u8], value: &[u8]) -> bool
-    ensures { result ≡ spec.has_pair pairs.now (header.now, value.now) }
+/// Filters of which copies share most.
+pub(crate) struct SharedFilters {
+    // None where there is no filter.
+    pairs: Option<Arc<Chunks<(Key, Key)>>>,
+}
+
+impl Model for SharedFilters {
+    ghost use Rattle.std.specs.Prelude.{[], option_map, unwrap_or};
+    ghost use Rattle.std.specs.Arc.{arc_value};
+    ghost use Rattle.fs_filter.specs.Subscriptions.{Filters};
+
+    ghost Value = { Filters };
+
+    ghost view = { λ f. unwrap_or (option_map arc_value f.pairs) [] };
+}
+
+impl Drop for SharedFilters {
+    fn drop(self) {
+        let SharedFilters { pairs: _pairs } = self;
+    }
+}
+
+impl SharedFilters {
+    /// No filter. Takes no memory.
+    pub fn none() -> SharedFilters
+        ensures { result ≡ [] }
+    {
+        SharedFilters { pairs: None }
+    }
+
+    /// The same once more, in constant time.
+    pub fn copy(&self) -> Result<SharedFilters, Memory>
+        ensures { IfOk result (λ filters. filters ≡ self.now) }
+    {
+        let pairs = match &self.pairs {
+            Some(pairs) => Some(pairs.clone()?),
+            None => None,
+        };
+        Ok(SharedFilters { pairs })
+    }
+
+    /// These filters and one more, if it is new.
+    pub fn with(&self, alloc: Global, header: &[u8], value: &[u8]) -> Result<SharedFilters, Memory>
+        ensures { IfOk result (λ filters. filters ≡ spec.with_filter self.now (header.now, value.now)) }
+    {
+        let filter = (Key::of(alloc, header)?, Key::of(alloc, value)?);
+        let pairs = match &self.pairs {
+            Some(pairs) => pairs.with(filter)?,
+            None => Chunks::new(alloc).with(filter)?,
+        };
+        let pairs = Some(Arc::new(alloc, pairs)?);
+        Ok(SharedFilters { pairs })
+    }
+
+    /// The filters in a list of their own.
+    pub fn whole(&self, alloc: Global) -> Result<Filters, Memory>
+        ensures { IfOk result (λ filters. filters ≡ self.now) }
+    {
+        match &self.pairs {
+            Some(pairs) => Ok(Filters {
+                pairs: pairs.whole()?,
+            }),
+            None => Ok(Filters::new(alloc)),
+        }
+    }
+
+    /// The filters of a list.
+    pub fn of(alloc: Global, filters: Filters) -> Result<SharedFilters, Memory>
+        ensures { IfOk result (λ shared. shared ≡ filters) }
+    {
+        let pairs = Chunks::of(alloc, filters.into_set())?;
+        let pairs = Some(Arc::new(alloc, pairs)?);
+        Ok(SharedFilters { pairs })
+    }
+
+    /// The filters in chunks.
+    pub fn chunks(&self) -> &[Arc<IndexSet<(Key, Key)>>]
+        ensures { joined result.now ≡ self.now }
+    {
+        match &self.pairs {
+            Some(pairs) => pairs.chunks(),
+            None => &[],
+        }
+    }
+}
+
+// Whether one of the filters is meant.
+fn has_meant(filters: &[(Key, Key)], header: &[u8], value: Option<&[u8]>) -> bool
+    ensures { result ≡ spec.has_filter filters.now header.now (lent value.entry) }
 {
-    pairs.iter().any(|pair| pair.0.as_bytes() == header && pair.1.as_bytes() == value)
+    filters.iter().any(|filter| is_meant(header, value, filter))
 }
 
 // Whether a filter is of this header, and has this value where one is named.
-fn is_meant(header: &[u8], value: Option<&[u8]>, filter: &(Txt, Txt)) -> bool
+fn is_meant(header: &[u8], value: Option<&[u8]>, filter: &(Key, Key)) -> bool
     ensures { result ≡ spec.is_meant header.now (lent value.entry) filter.now }
 {
     filter.0.as_bytes() == header && value.is_none_or(|value| filter.1.as_bytes() == value)

@@ -2,7 +2,9 @@
 #![tactic(auto)]
 
 mod asked;
+mod chunks;
 mod filters;
+mod key;
 mod laws;
 mod shared;
 mod sieve;

@@ -4,6 +4,7 @@ ghost use Rattle.std.specs.Prelude.{◌≡◌, true, IfOk, OnOk, OnErr};
 ghost use Rattle.fs_filter.specs.Asked.{asked_in, is_known, lent};
 ghost use Rattle.fs_filter.specs.Subscriptions as spec;
 
+use crate::filters::SharedFilters;
 use crate::sieve::Sieve;
 use crate::subs::Subs;
 use fs_text::{EventName, Memory};
@@ -11,13 +12,14 @@ use std::alloc::Global;
 use std::marker::Model;
 use std::sync::Arc;
 
-/// What a connection subscribed, shared between its copies until one of them is changed.
+/// What a connection subscribed, shared between its copies.
 ///
-/// A contract sees it as what is subscribed. A change of it is made in a copy of its own, so its other copies stay as
-/// they are.
+/// A contract sees it as what is subscribed. A change leaves the other copies as they are, and shares with them what it
+/// does not change: one more filter or subclass to n costs about log n.
 pub struct SharedSubs {
-    // None where nothing was ever asked.
+    // What is subscribed, without the filters. None where nothing was ever asked.
     shared: Option<Arc<Subs>>,
+    filters: SharedFilters,
 }
 
 impl Model for SharedSubs {
@@ -27,12 +29,15 @@ impl Model for SharedSubs {
 
     ghost Value = { Subscription };
 
-    ghost view = { λ s. unwrap_or (option_map arc_value s.shared) nothing };
+    ghost view = { λ s. let subs : Subscription = unwrap_or (option_map arc_value s.shared) nothing in record subs { filters = s.filters } };
 }
 
 impl Drop for SharedSubs {
     fn drop(self) {
-        let SharedSubs { shared: _shared } = self;
+        let SharedSubs {
+            shared: _shared,
+            filters: _filters,
+        } = self;
     }
 }
 
@@ -41,7 +46,10 @@ impl SharedSubs {
     pub fn nothing() -> SharedSubs
         ensures { result ≡ spec.nothing }
     {
-        SharedSubs { shared: None }
+        SharedSubs {
+            shared: None,
+            filters: SharedFilters::none(),
+        }
     }
 
     /// The same once more, in constant time.
@@ -52,7 +60,10 @@ impl SharedSubs {
             Some(subs) => Some(subs.clone()?),
             None => None,
         };
-        Ok(SharedSubs { shared })
+        Ok(SharedSubs {
+            shared,
+            filters: self.filters.copy()?,
+        })
     }
 
     /// Whether a known name was subscribed, since the beginning or the last `clear`. Takes no memory.
@@ -89,10 +100,7 @@ impl SharedSubs {
     pub fn sieve(&self, alloc: Global) -> Sieve<'_>
         ensures { result ≡ spec.sieve_of self.now.filters }
     {
-        match &self.shared {
-            Some(subs) => subs.sieve(),
-            None => Sieve::of(alloc, &[]),
-        }
+        Sieve::over(alloc, self.filters.chunks())
     }
 
     /// Subscribes the events that these words name, as [`Subs::subscribe`] does. Answers whether a known name stands
@@ -137,9 +145,8 @@ impl SharedSubs {
             ≡ record self.old { filters = spec.with_filter self.old.filters (header.now, value.now) }) }
         ensures err { OnErr result (self.new ≡ self.old) }
     {
-        let mut subs = self.own(alloc)?;
-        subs.add_filter(header, value)?;
-        self.put(alloc, subs)
+        self.filters = self.filters.with(alloc, header, value)?;
+        Ok(())
     }
 
     /// Takes out the filters of a header, those with this value where one is named. Answers whether there was one.
@@ -156,15 +163,15 @@ impl SharedSubs {
         ensures found { IfOk result (λ found. found ≡ spec.has_filter self.old.filters header.now (lent value.entry)) }
         ensures err { OnErr result (self.new ≡ self.old) }
     {
-        let mut subs = self.own(alloc)?;
-        let found = subs.delete_filter(header, value);
-        self.put(alloc, subs)?;
+        let mut filters = self.filters.whole(alloc)?;
+        let found = filters.remove(header, value);
+        self.filters = SharedFilters::of(alloc, filters)?;
         Ok(found)
     }
 
-    // What is subscribed, in a copy of its own.
+    // What is subscribed, in a copy of its own, with other filters.
     fn own(&self, alloc: Global) -> Result<Subs, Memory>
-        ensures { IfOk result (λ subs. subs ≡ self.now) }
+        ensures { IfOk result (λ subs. record subs { filters = self.now.filters } ≡ self.now) }
     {
         match &self.shared {
             Some(subs) => subs.copy(),
@@ -172,9 +179,9 @@ impl SharedSubs {
         }
     }
 
-    // Puts what was changed in the place of what was subscribed.
+    // Puts what was changed in the place of what was subscribed. The filters stay.
     fn put(&mut self, alloc: Global, subs: Subs) -> Result<(), Memory>
-        ensures ok { OnOk result (self.new ≡ subs) }
+        ensures ok { OnOk result (self.new ≡ record subs { filters = self.old.filters }) }
         ensures err { OnErr result (self.new ≡ self.old) }
     {
         self.shared = Some(Arc::new(alloc, subs)?);

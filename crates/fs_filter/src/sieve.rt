@@ -1,11 +1,15 @@
 //! Headers that filters see one by one.
 
-ghost use Rattle.std.specs.Prelude.{◌≡◌};
+ghost use Rattle.std.specs.Prelude.{◌≡◌, ◌==◌, length};
+ghost use Rattle.fs_filter.specs.Chunks.{joined};
 ghost use Rattle.fs_filter.specs.Subscriptions as spec;
 
-use fs_text::{HeaderSink, Memory, Txt, variable_name};
+use crate::key::Key;
+use fs_text::{HeaderSink, Memory, variable_name};
+use indexmap::IndexSet;
 use std::alloc::Global;
 use std::marker::Model;
+use std::sync::Arc;
 
 /// What filters say of headers that they are given one by one, made by `Subs::sieve`.
 ///
@@ -13,27 +17,44 @@ use std::marker::Model;
 #[derive(Drop)]
 pub struct Sieve<'a> {
     alloc: Global,
-    filters: &'a [(Txt, Txt)],
+    // The filters are those of a list, and those of chunks behind it.
+    listed: &'a [(Key, Key)],
+    chunks: &'a [Arc<IndexSet<(Key, Key)>>],
     passed: bool,
 }
 
 impl<'a> Model for Sieve<'a> {
+    ghost use Rattle.std.specs.Prelude.{◌++◌};
+    ghost use Rattle.fs_filter.specs.Chunks.{joined};
     ghost use Rattle.fs_filter.specs.Subscriptions.{Sieve};
 
     ghost Value = { Sieve };
 
-    ghost view = { λ s. record { filters = s.filters.now; passed = s.passed } };
+    ghost view = { λ s. record { filters = s.listed.now ++ joined s.chunks.now; passed = s.passed } };
 }
 
 impl<'a> Sieve<'a> {
-    /// Filters that have seen no header yet.
-    pub(crate) fn of(alloc: Global, filters: &'a [(Txt, Txt)]) -> Sieve<'a>
+    /// Filters of a list that have seen no header yet.
+    pub(crate) fn of(alloc: Global, filters: &'a [(Key, Key)]) -> Sieve<'a>
         ensures { result ≡ spec.sieve_of filters.now }
     {
         Sieve {
             alloc,
-            filters,
+            listed: filters,
+            chunks: &[],
             passed: filters.is_empty(),
+        }
+    }
+
+    /// Filters in chunks that have seen no header yet.
+    pub(crate) fn over(alloc: Global, chunks: &'a [Arc<IndexSet<(Key, Key)>>]) -> Sieve<'a>
+        ensures { result ≡ spec.sieve_of (joined chunks.now) }
+    {
+        Sieve {
+            alloc,
+            listed: &[],
+            chunks,
+            passed: are_empty(chunks),
         }
     }
 
@@ -48,7 +69,9 @@ impl<'a> Sieve<'a> {
     pub(crate) fn see(&mut self, name: &[u8], value: &[u8])
         ensures { self.new ≡ spec.sifted (name.now, value.now) self.old }
     {
-        self.passed = self.passed || is_asked(self.filters, name, value);
+        self.passed = self.passed
+            || is_asked(self.listed, name, value)
+            || is_asked_in(self.chunks, name, value);
     }
 }
 
@@ -67,9 +90,25 @@ impl HeaderSink for Sieve<'_> {
     }
 }
 
+// Whether no chunk has a filter.
+fn are_empty(chunks: &[Arc<IndexSet<(Key, Key)>>]) -> bool
+    ensures { result ≡ (length (joined chunks.now) == 0) }
+{
+    chunks.iter().all(|chunk| chunk.as_slice().is_empty())
+}
+
 // Whether one of these filters is this header with its value.
-fn is_asked(filters: &[(Txt, Txt)], name: &[u8], value: &[u8]) -> bool
+fn is_asked(filters: &[(Key, Key)], name: &[u8], value: &[u8]) -> bool
     ensures { result ≡ spec.is_asked filters.now (name.now, value.now) }
 {
     filters.iter().any(|filter| name == filter.0.as_bytes() && value == filter.1.as_bytes())
+}
+
+// Whether a filter of these chunks is this header with its value.
+fn is_asked_in(chunks: &[Arc<IndexSet<(Key, Key)>>], name: &[u8], value: &[u8]) -> bool
+    ensures { result ≡ spec.is_asked (joined chunks.now) (name.now, value.now) }
+{
+    chunks
+        .iter()
+        .any(|chunk| is_asked(chunk.as_slice(), name, value))
 }

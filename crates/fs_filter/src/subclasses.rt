@@ -2,27 +2,38 @@
 
 ghost use Rattle.std.specs.Prelude.{◌≡◌, IfOk, option_map};
 ghost use Rattle.fs_filter.specs.Asked.{texts};
+ghost use Rattle.fs_filter.specs.Chunks.{joined};
 ghost use Rattle.fs_filter.specs.Subscriptions.{All, These, has_text, has_subclass, with_texts, with_subclasses};
 ghost use Rattle.fs_filter.specs.Subscriptions.{without_texts, without_subclasses, without_behind};
 
 use crate::asked::Asked;
-use fs_text::{Memory, Txt};
+use crate::chunks::Chunks;
+use crate::key::Key;
+use fs_text::Memory;
+use indexmap::IndexSet;
 use std::alloc::Global;
 use std::marker::Model;
+use std::sync::Arc;
 
 /// The subclasses that are subscribed: all, or those of a list.
-#[derive(Drop)]
 pub(crate) struct Subclasses {
     // None where all are.
-    listed: Option<Vec<Txt>>,
+    listed: Option<Chunks<Key>>,
 }
 
 impl Model for Subclasses {
-    ghost use Rattle.fs_filter.specs.Subscriptions.{Subclasses, subclasses_of};
+    ghost use Rattle.std.specs.Prelude.{option_map, unwrap_or};
+    ghost use Rattle.fs_filter.specs.Subscriptions.{Subclasses, All, These};
 
     ghost Value = { Subclasses };
 
-    ghost view = { λ s. subclasses_of s.listed };
+    ghost view = { λ s. unwrap_or (option_map These s.listed) All };
+}
+
+impl Drop for Subclasses {
+    fn drop(self) {
+        let Subclasses { listed: _listed } = self;
+    }
 }
 
 impl Subclasses {
@@ -33,16 +44,16 @@ impl Subclasses {
         ensures { result ≡ These [] }
     {
         Subclasses {
-            listed: Some(Vec::new(alloc)),
+            listed: Some(Chunks::new(alloc)),
         }
     }
 
-    /// The same once more; the texts share their bytes.
-    pub fn copy(&self, alloc: Global) -> Result<Subclasses, Memory>
+    /// The same once more; the texts are shared.
+    pub fn copy(&self) -> Result<Subclasses, Memory>
         ensures { IfOk result (λ s. s ≡ self.now) }
     {
         let listed = match &self.listed {
-            Some(known) => Some(copied(alloc, known.as_slice())?),
+            Some(known) => Some(known.copy()?),
             None => None,
         };
         Ok(Subclasses { listed })
@@ -64,7 +75,7 @@ impl Subclasses {
     {
         match &self.listed {
             None => true,
-            Some(known) => has_text(known.as_slice(), subclass),
+            Some(known) => has_text(known.chunks(), subclass),
         }
     }
 
@@ -74,70 +85,76 @@ impl Subclasses {
     {
         let listed = match &self.listed {
             Some(known) if !asked.is_all() => {
-                Some(with_texts(alloc, known.as_slice(), asked.subclasses().unwrap_or(&[]))?)
+                Some(with_texts(alloc, known.copy()?, asked.subclasses().unwrap_or(&[]))?)
             }
             _ => None,
         };
         Ok(Subclasses { listed })
     }
 
-    /// Takes out the subclasses that are asked for.
-    pub fn remove(&mut self, alloc: Global, asked: &Asked)
-        ensures { self.new ≡ without_subclasses asked.now self.old }
+    /// These subclasses without the ones that are asked for.
+    pub fn without(&self, alloc: Global, asked: &Asked) -> Result<Subclasses, Memory>
+        ensures { IfOk result (λ s. s ≡ without_subclasses asked.now self.now) }
     {
         if asked.is_all() {
-            self.listed = Some(Vec::new(alloc));
-        } else if let Some(behind) = asked.subclasses() {
-            self.remove_behind(alloc, behind);
+            return Ok(Subclasses::none(alloc));
+        }
+        match asked.subclasses() {
+            Some(behind) => self.without_behind(alloc, behind),
+            None => self.copy(),
         }
     }
 
-    // Takes out the ones behind `CUSTOM`, or all where none stands there.
-    fn remove_behind(&mut self, alloc: Global, behind: &[&[u8]])
-        ensures { self.new ≡ without_behind (Some (texts behind.now)) self.old }
+    // These without the ones behind `CUSTOM`, or none where nothing stands there.
+    fn without_behind(&self, alloc: Global, behind: &[&[u8]]) -> Result<Subclasses, Memory>
+        ensures { IfOk result (λ s. s ≡ without_behind (Some (texts behind.now)) self.now) }
     {
         if behind.is_empty() {
-            self.listed = Some(Vec::new(alloc));
-        } else if let Some(known) = &mut self.listed {
-            known.retain(|text| !is_among(behind, text.as_bytes()));
+            return Ok(Subclasses::none(alloc));
         }
+        let listed = match &self.listed {
+            Some(known) => Some(without_texts(alloc, known, behind)?),
+            None => None,
+        };
+        Ok(Subclasses { listed })
     }
 }
 
 // These texts, and those of the others that are new.
-fn with_texts(alloc: Global, known: &[Txt], others: &[&[u8]]) -> Result<Vec<Txt>, Memory>
-    ensures { IfOk result (λ all. all.items ≡ with_texts known.now (texts others.now)) }
+fn with_texts(alloc: Global, known: Chunks<Key>, others: &[&[u8]]) -> Result<Chunks<Key>, Memory>
+    ensures { IfOk result (λ all. all ≡ with_texts known (texts others.now)) }
 {
-    let mut all = copied(alloc, known)?;
+    let mut all = known;
     for text in others {
-        if !has_text(all.as_slice(), text) {
-            all.push(Txt::of(alloc, text)?)?;
-        }
+        all = all.with(Key::of(alloc, text)?)?;
     }
     Ok(all)
 }
 
-// The texts once more; their bytes are shared.
-fn copied(alloc: Global, known: &[Txt]) -> Result<Vec<Txt>, Memory>
-    ensures { IfOk result (λ all. all.items ≡ known.now) }
+// These texts without the others.
+fn without_texts(
+    alloc: Global,
+    known: &Chunks<Key>,
+    others: &[&[u8]],
+) -> Result<Chunks<Key>, Memory>
+    ensures { IfOk result (λ rest. rest ≡ without_texts known.now (texts others.now)) }
 {
-    let mut all = Vec::with_capacity(alloc, known.len())?;
-    for text in known {
-        all.push(text.copy()?)?;
-    }
-    Ok(all)
+    let taken = with_texts(alloc, Chunks::new(alloc), others)?;
+    let mut rest = known.whole()?;
+    rest.retain(|text| !taken.has(text));
+    Chunks::of(alloc, rest)
+}
+
+// Whether a text is among those of these chunks.
+fn has_text(known: &[Arc<IndexSet<Key>>], text: &[u8]) -> bool
+    ensures { result ≡ has_text (joined known.now) text.now }
+{
+    known.iter().any(|chunk| is_among(chunk.as_slice(), text))
 }
 
 // Whether a text is among these.
-fn has_text(known: &[Txt], text: &[u8]) -> bool
+fn is_among(known: &[Key], text: &[u8]) -> bool
     ensures { result ≡ has_text known.now text.now }
 {
     known.iter().any(|other| other.as_bytes() == text)
-}
-
-// Whether a text is among these, which are lent.
-fn is_among(known: &[&[u8]], text: &[u8]) -> bool
-    ensures { result ≡ has_text (texts known.now) text.now }
-{
-    known.iter().any(|other| *other == text)
 }

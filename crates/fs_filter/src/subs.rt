@@ -65,9 +65,9 @@ impl Subs {
         let alloc = self.alloc();
         Ok(Subs {
             names: Vec::from_slice(alloc, self.names.as_slice())?,
-            subclasses: self.subclasses.copy(alloc)?,
+            subclasses: self.subclasses.copy()?,
             listening: self.listening,
-            filters: self.filters.copy(alloc)?,
+            filters: self.filters.copy()?,
         })
     }
 
@@ -103,8 +103,8 @@ impl Subs {
         let alloc = self.alloc();
         let words = words_in(alloc, names)?;
         let asked = Asked::of(words.as_slice());
+        self.subclasses = self.subclasses.without(alloc, &asked)?;
         self.names.retain(|name| !asked.has_name(*name));
-        self.subclasses.remove(alloc, &asked);
         Ok(asked.is_known())
     }
 

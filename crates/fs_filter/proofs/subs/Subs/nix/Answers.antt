@@ -12,4 +12,4 @@ returns-clause-ok c =
     let names : c.retain.new.self.items ≡ without_names c.of-asked.result c.self.inside.names.items =
     filter_same _ (λ name. not (asks_name c.of-asked.result name)) _ (λ x b f' k. search (rules, tests)) _ _
     c.retain.ensures.filtered in
-    unsubscribed_is _ _ _ _ _ _ _ _ asked names c.remove.ensures ∙ ap (unsubscribed (asked_in c.args.names.now)) c.self.view_is
+    unsubscribed_is _ _ _ _ _ _ _ _ asked names c.in_ok-self-inside.ensures ∙ ap (unsubscribed (asked_in c.args.names.now)) c.self.view_is

@@ -45,7 +45,7 @@ unfolding placed
 one_placed x things thing is =
     one_case x things (count_by (λ other. nat_lt other.0 thing.0) things) thing (has_slot thing.0 things) is
 
-one_order : {T : Type 0} (x : ℕ × T) (before things : List (ℕ × T)) → IsOneOf x (fold placed before things) →
+pub one_order : {T : Type 0} (x : ℕ × T) (before things : List (ℕ × T)) → IsOneOf x (fold placed before things) →
     IsOneOf x before ⊎ IsOneOf x things
 one_order x before [] is = inl is
 one_order x before (thing ∷ things) is =
@@ -62,7 +62,7 @@ kept_case : {X : Type 0} (x y : X) (left : List X) (b : Bool) → IsOneOf x (con
 kept_case x y left true is = is
 kept_case x y left false is = inr is
 
-one_filter : {X : Type 0} (test : X → Bool) (x : X) (xs : List X) → IsOneOf x (filter test xs) → IsOneOf x xs
+pub one_filter : {X : Type 0} (test : X → Bool) (x : X) (xs : List X) → IsOneOf x (filter test xs) → IsOneOf x xs
 one_filter test x [] is = is
 one_filter test x (y ∷ xs) is =
     elim (kept_case x y (filter test xs) (test y) is) [ inl same ↦ inl same | inr h ↦ inr (one_filter test x xs h) ]

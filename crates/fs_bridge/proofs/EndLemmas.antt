@@ -192,7 +192,7 @@ leg_tells w row leg lines told is =
     ]
 
 -- two of one caller are one
-one_row : (w : World) (row other : Row) → AreLines w → IsTold w row → IsTold w other → other.caller ≡ row.caller → other ≡ row
+pub one_row : (w : World) (row other : Row) → AreLines w → IsTold w row → IsTold w other → other.caller ≡ row.caller → other ≡ row
 one_row w row other lines told too same =
     let of = lines.row told.slot row told.lives told.bridge in
     let its = lines.row too.slot other too.lives too.bridge in
@@ -367,7 +367,7 @@ some_first w named row leg (m ∷ ms) lines are within told (inr one) bridge =
         (m.1, inl (is_same w row m.0 (w.row m.0) lines told (member_lives w named m are (within m (inl refl))) refl is, refl))
     by false is behind = (behind.0, inr (is, behind.1))
 
-leg_of_end : (w : World) (named : Members) (row : Row) (cause : Cause) → AreLines w → AreNamed w named → EndsOf w named row cause →
+pub leg_of_end : (w : World) (named : Members) (row : Row) (cause : Cause) → AreLines w → AreNamed w named → EndsOf w named row cause →
     (leg : ℕ) × (has_leg leg row ≡ true) × (has_slot leg (members_of w named) ≡ true)
 leg_of_end w named row cause lines are d =
     let member = each_of_a_round_hangs_up w named d.round (d.leg, cause) lines are d.died in (
@@ -425,14 +425,14 @@ all_apart w before [] apart = apart
 all_apart w before (m ∷ ms) apart = all_apart w (with_end m.1 before (w.row m.0)) ms (apart_end m.1 before (w.row m.0) apart)
 
 -- the slot tells of each of which it is a leg
-abbrev TellsOfEach : World → ℕ → List (Row × Cause) → Type 0
+abbrev pub TellsOfEach : World → ℕ → List (Row × Cause) → Type 0
 TellsOfEach w slot es = (e : Row × Cause) → IsOneOf e es → has_leg slot e.0 ≡ true → w.row slot ≡ Some e.0
 
-legs_front : (slot : ℕ) (e : Row × Cause) (es : List (Row × Cause)) →
+pub legs_front : (slot : ℕ) (e : Row × Cause) (es : List (Row × Cause)) →
     count_by (λ end. has_leg slot end.0) (e ∷ es) ≡ cond (has_leg slot e.0) 1 0 + count_by (λ end. has_leg slot end.0) es
 legs_front slot e es = sum_by-cons (λ (end : Row × Cause). cond (has_leg slot end.0) 1 0) e es
 
-none_ended : (w : World) (slot : ℕ) (row : Row) (es : List (Row × Cause)) → TellsOfEach w slot es → w.row slot ≡ Some row →
+pub none_ended : (w : World) (slot : ℕ) (row : Row) (es : List (Row × Cause)) → TellsOfEach w slot es → w.row slot ≡ Some row →
     has_ended row.caller es ≡ false → count_by (λ end. has_leg slot end.0) es ≡ 0
 none_ended w slot row [] tells bridge none = refl
 none_ended w slot row (e ∷ es) tells bridge none =

@@ -132,7 +132,7 @@ order_first x before (t ∷ things) is =
           inr (parts.1, inr (parts.0, later.1))
     ]
 
-first_order : {T : Type 0} (x : ℕ × T) (before things : List (ℕ × T)) → has_slot x.0 before ≡ false → IsFirst x things →
+pub first_order : {T : Type 0} (x : ℕ × T) (before things : List (ℕ × T)) → has_slot x.0 before ≡ false → IsFirst x things →
     IsOneOf x (fold placed before things)
 first_order x before [] new is = absurd is
 first_order x before (t ∷ things) new (inl same) =

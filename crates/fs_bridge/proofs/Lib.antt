@@ -1,9 +1,13 @@
 pub mod DragLemmas
 pub mod EndLemmas
 pub mod FirstLemmas
+pub mod LeaverLemmas
+pub mod LeavingSteps
 pub mod ListedLemmas
 pub mod OnceLemmas
 pub mod OutliveLemmas
+pub mod PartLemmas
+pub mod PartedLemmas
 pub mod RoundLemmas
 pub mod RowLemmas
 pub mod SettledLemmas

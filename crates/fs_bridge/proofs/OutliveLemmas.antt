@@ -20,7 +20,7 @@ use Rattle.fs_bridge.proofs.SurvivorLemmas.{one_told, left_case}
 use Rattle.fs_bridge.proofs.FirstLemmas.{only_first, first_in_order}
 use Rattle.fs_bridge.proofs.WayLemmas.{left_from, left_to}
 use Rattle.fs_bridge.proofs.ListedLemmas.{each_is_in_a_round, one_round_and_cause}
-use Rattle.fs_bridge.proofs.EndLemmas.{leg_tells, told_by, member_lives}
+use Rattle.fs_bridge.proofs.EndLemmas.{leg_tells, member_lives}
 
 -- ---- the legs of a bridge
 
@@ -32,7 +32,7 @@ peer_leg_case row true = there (row.caller == row.answerer)
     there false = nat_eq_equiv.refl row.answerer
 peer_leg_case row false = ap (λ b. b || row.answerer == row.caller) (nat_eq_equiv.refl row.caller)
 
-peer_is_leg : (row : Row) (slot other : ℕ) → other ≡ peer_in row slot → has_leg other row ≡ true
+pub peer_is_leg : (row : Row) (slot other : ℕ) → other ≡ peer_in row slot → has_leg other row ≡ true
 peer_is_leg row slot other is = ap (λ s. has_leg s row) is ∙ peer_leg_case row (row.caller == slot)
 
 peer_case : (row : Row) (slot other : ℕ) (called : Bool) → row.caller ≢ row.answerer → (row.caller == slot) ≡ called →
@@ -61,23 +61,27 @@ peer_back row slot other apart leg peer = peer_case row slot other (row.caller =
 -- ---- one leaves it
 
 -- one leg leaves the other: that tells of a bridge, of which the one is the other leg
-record Leaves (w : World) (leg other : ℕ) : Type 0 where
+pub record Leaves (w : World) (leg other : ℕ) : Type 0 where
   pub row : Row
   pub tells : w.row other ≡ Some row
   pub peer : leg ≡ peer_in row other
 
-leaves : (w : World) (named : Members) (by : Member) (slot : ℕ) (after : After) → AreLines w → AreNamed w named →
-    IsOneOf by (members_of w named) → IsLeft w by slot after → Leaves w by.0 slot
-leaves w named by slot after lines are member is =
-    let of = lines.row by.0 is.row (member_lives w named by are member) is.bridge in record {
+pub leaves_living : (w : World) (by : Member) (slot : ℕ) (after : After) → AreLines w → w.live by.0 ≡ true → IsLeft w by slot after →
+    Leaves w by.0 slot
+leaves_living w by slot after lines lives is =
+    let of = lines.row by.0 is.row lives is.bridge in record {
       row = is.row;
       tells =
-          leg_tells w is.row slot lines (told_by w named by is.row are member is.bridge)
+          leg_tells w is.row slot lines (record { slot = by.0; lives = lives; bridge = is.bridge })
           (peer_is_leg is.row by.0 slot is.peer);
       peer = peer_back is.row by.0 slot of.apart of.leg is.peer;
     }
 
-one_leaves : (w : World) (leg other left : ℕ) → Leaves w leg left → Leaves w other left → leg ≡ other
+leaves : (w : World) (named : Members) (by : Member) (slot : ℕ) (after : After) → AreLines w → AreNamed w named →
+    IsOneOf by (members_of w named) → IsLeft w by slot after → Leaves w by.0 slot
+leaves w named by slot after lines are member is = leaves_living w by slot after lines (member_lives w named by are member) is
+
+pub one_leaves : (w : World) (leg other left : ℕ) → Leaves w leg left → Leaves w other left → leg ≡ other
 one_leaves w leg other left is too =
     let same : is.row ≡ too.row = same_Some is.row too.row (sym is.tells ∙ too.tells) in
     is.peer ∙ ap (λ row. peer_in row left) same ∙ sym too.peer
@@ -108,7 +112,7 @@ behind_option : {X : Type 0} (y : X) (o : Option X) (rest : List X) → IsOneOf 
 behind_option y None rest is = is
 behind_option y (Some x) rest is = inr is
 
-told_one : {X Y : Type 0} (h : X → Option Y) (x : X) (y : Y) (xs : List X) → IsOneOf x xs → h x ≡ Some y → IsOneOf y (filter_map h xs)
+pub told_one : {X Y : Type 0} (h : X → Option Y) (x : X) (y : Y) (xs : List X) → IsOneOf x xs → h x ≡ Some y → IsOneOf y (filter_map h xs)
 told_one h x y [] is told = absurd is
 told_one h x y (z ∷ xs) (inl same) told =
     subst (λ o. IsOneOf y (cons_option o (filter_map h xs))) (sym told ∙ ap h same) (inl refl)

@@ -14,7 +14,7 @@ use Rattle.fs_bridge.specs.Closure.{Member, Members, drags, may_join, round_afte
 
 -- ---- a round
 
-option_alone : {X : Type 0} (o : Option X) → cons_option o [] ≡ option_to_list o
+pub option_alone : {X : Type 0} (o : Option X) → cons_option o [] ≡ option_to_list o
 option_alone None = refl
 option_alone (Some x) = refl
 

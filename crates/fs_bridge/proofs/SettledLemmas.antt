@@ -154,7 +154,7 @@ apart_head : (slot : ℕ) (m : Member) (n count : ℕ) (here : Bool) → (m.0 ==
 apart_head slot m n count true is sum none = absurd (suc-ne-zero n (omega (arith, sum, none)))
 apart_head slot m n count false is sum none = (nat_eq_equiv.symm slot m.0 ∙ is, omega (arith, sum, none))
 
-apart : (slot : ℕ) (ms : Members) → count_in slot ms ≡ 0 → AllByRecursion (λ other. eqb slot other ≡ false) (map (λ m. m.0) ms)
+pub apart : (slot : ℕ) (ms : Members) → count_in slot ms ≡ 0 → AllByRecursion (λ other. eqb slot other ≡ false) (map (λ m. m.0) ms)
 apart slot [] none = tt
 apart slot (m ∷ ms) none =
     let head = apart_head slot m (count_in slot ms) (count_in slot (m ∷ ms)) (m.0 == slot) refl (count_cons slot m ms) none in

@@ -24,7 +24,7 @@ use Rattle.fs_bridge.proofs.SettledLemmas.{each_dragged_hangs_up, members_live, 
 
 -- ---- in order stands everyone
 
-kept_insert : {X : Type 0} (x : X) (xs : List X) (i : ℕ) (y : X) → IsOneOf x xs → IsOneOf x (insert xs i y)
+pub kept_insert : {X : Type 0} (x : X) (xs : List X) (i : ℕ) (y : X) → IsOneOf x xs → IsOneOf x (insert xs i y)
 kept_insert x xs i y is =
     elim (one_parts x (take i xs) (drop i xs) (subst (λ all. IsOneOf x all) (sym (take-append-drop i xs)) is)) [
       | inl h ↦ one_front x (take i xs) (y ∷ drop i xs) h

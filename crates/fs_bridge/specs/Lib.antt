@@ -4,6 +4,8 @@ pub mod Closure
 pub mod Endings
 pub mod Hangups
 pub mod Laws
+pub mod Leaving
+pub mod Leavings
 pub mod Orders
 pub mod Rounds
 pub mod Worlds

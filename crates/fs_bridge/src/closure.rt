@@ -1,8 +1,9 @@
 //! What a hangup drags along, and what it comes to.
 
-ghost use Rattle.std.specs.Prelude.{◌≡◌, ◌++◌, fold, filter, map, option_to_list, option_and_then, IfOk, OnOk};
+ghost use Rattle.std.specs.Prelude.{◌≡◌, ◌++◌, not, fold, filter, map, option_to_list, option_and_then, IfOk, OnOk};
 ghost use Rattle.fs_bridge.specs.Closure as spec;
-ghost use Rattle.fs_bridge.specs.Orders.{placed, in_order};
+ghost use Rattle.fs_bridge.specs.Leaving as leaving;
+ghost use Rattle.fs_bridge.specs.Orders.{has_slot, placed, in_order};
 
 use crate::after::{After, after_kind};
 use crate::lines::Lines;
@@ -48,6 +49,13 @@ impl Closure {
         ensures { result.now ≡ self.now.survivors }
     {
         self.survivors.as_slice()
+    }
+
+    /// Those of the others who do not hang up outlive their bridges, too.
+    pub(crate) fn add_survivors(&mut self, others: &[(u16, After)]) -> Result<(), Memory>
+        ensures ok { OnOk result (self.new ≡ leaving.with_survivors others.now self.old) }
+    {
+        outlive(&mut self.survivors, &self.members, others)
     }
 }
 
@@ -153,11 +161,14 @@ fn dragged<L: Lines>(
 }
 
 /// Puts one more behind all others, if there is one.
-fn add(members: &mut Vec<(u16, Cause)>, member: Option<(u16, Cause)>) -> Result<(), Memory>
-    ensures ok { OnOk result (members.new.items ≡ members.old.items ++ option_to_list member) }
+pub(crate) fn add<T: Copy>(
+    things: &mut Vec<(u16, T)>,
+    thing: Option<(u16, T)>,
+) -> Result<(), Memory>
+    ensures ok { OnOk result (things.new.items ≡ things.old.items ++ option_to_list thing) }
 {
-    if let Some(member) = member {
-        members.push(member)?;
+    if let Some(thing) = thing {
+        things.push(thing)?;
     }
     Ok(())
 }
@@ -261,10 +272,27 @@ fn end(ended: &mut Vec<(Row, Cause)>, row: Option<Row>, cause: Cause) -> Result<
 }
 
 /// Whether one of these bridges is that of the caller.
-fn has_ended(ended: &[(Row, Cause)], caller: u16) -> bool
+pub(crate) fn has_ended(ended: &[(Row, Cause)], caller: u16) -> bool
     ensures { result ≡ spec.has_ended caller ended.now }
 {
     ended.iter().any(|end| end.0.caller == caller)
+}
+
+/// Puts those into the survivors who are no members, in order of slots.
+fn outlive(
+    survivors: &mut Vec<(u16, After)>,
+    members: &[(u16, Cause)],
+    others: &[(u16, After)],
+) -> Result<(), Memory>
+    ensures ok { OnOk result (survivors.new.items
+        ≡ fold placed survivors.old.items (filter (λ s. not (has_slot s.0 members.now)) others.now)) }
+{
+    for other in others {
+        if !has_slot(members, other.0) {
+            place(survivors, *other)?;
+        }
+    }
+    Ok(())
 }
 
 /// The peers of the members that are no members, in order of slots.

@@ -4,6 +4,7 @@
 ghost use Rattle.fs_bridge.specs.Laws as laws;
 ghost use Rattle.fs_bridge.specs.Hangups as hangups;
 ghost use Rattle.fs_bridge.specs.Endings as endings;
+ghost use Rattle.fs_bridge.specs.Leavings as leavings;
 
 /// Law: who is part of a bridge once one is joined, and once one has ended.
 pub fn bridges_law()
@@ -36,4 +37,35 @@ pub fn endings_law()
     ensures first { endings.EachEndsOfTheFirst }
     ensures once { endings.NoBridgeEndsTwice }
     ensures survivors { endings.SurvivorsAreLeft }
+{}
+
+/// Law: where some leave, the rounds are those of a hangup once the bridges that they leave have ended. In round 0 are
+/// those who hang up first, and those who are left and do not outlive it; where nobody leaves, it is that hangup.
+pub fn leaving_law()
+    ensures nobody { leavings.NobodyLeaves }
+    ensures first { leavings.FirstAreNamedOrLeft }
+    ensures cause { leavings.LeftClear }
+    ensures others { leavings.OthersStand }
+    ensures hangup { leavings.LeavingIsAHangup }
+    ensures members { leavings.MembersAreOfRounds }
+    ensures one { leavings.OfOneRoundAndCause }
+{}
+
+/// Law: where some leave, a bridge ends exactly where one of its legs leaves or hangs up, and once: of a normal
+/// clearing where it is left, else of the cause of the leg that died first.
+pub fn parting_law()
+    ensures parted { leavings.PartedAreLeft }
+    ensures order { leavings.PartedAreInOrder }
+    ensures others { leavings.OthersEndOfTheFirst }
+    ensures ends { leavings.EndsWithALegOrLeaver }
+    ensures once { leavings.NoneEndsTwice }
+{}
+
+/// Law: where some leave, those outlive a bridge who are left, and neither leave, too, nor hang up; of those who leave
+/// live on all who do not hang up.
+pub fn leavers_law()
+    ensures survivors { leavings.OthersSurvive }
+    ensures stay { leavings.SurvivorsStay }
+    ensures leavers { leavings.LeaversLive }
+    ensures order { leavings.LeaversAreInOrder }
 {}

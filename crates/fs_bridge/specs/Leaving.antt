@@ -11,7 +11,7 @@ use Rattle.fs_bridge.specs.Worlds.{World}
 use Rattle.fs_bridge.specs.Orders.{has_slot, placed}
 use Rattle.fs_bridge.specs.Closure.{Member, Members, Ends, left_by, hung, has_ended, closure_of}
 
--- who leaves a bridge and lives on, which ends as by a normal clearing
+-- who leaves a bridge and lives on, with the cause of which that bridge ends: a normal clearing
 abbrev pub leaver : ℕ → Member
 leaver slot = (slot, NormalClearing)
 
@@ -72,8 +72,8 @@ abbrev pub with_survivors : List (ℕ × After) → Ends → Ends
 with_survivors others ends =
     record ends { survivors = fold placed ends.survivors (filter (λ s. not (has_slot s.0 ends.members)) others) }
 
--- what comes of those that are named, and of those who are left: who hangs up, round by round, where the bridges that are left have ended
--- and drag nobody
+-- what comes of those that are named, and of those who are left: the hangup of round 0, where the bridges that are left have ended and drag
+-- nobody, and beside it those who are left and stay
 abbrev pub ends_with : World → Members → List ℕ → Ends
 ends_with w first left = with_survivors (all_left w left) (closure_of (parted_world w left) (first_round w first left))
 

@@ -1,6 +1,6 @@
 //! The texts that a connection is sent of an event.
 
-ghost use Rattle.std.specs.Prelude.{◌≡◌, [], ◌++◌, IfOk, OnOk};
+ghost use Rattle.std.specs.Prelude.{◌≡◌, ◌≤◌, [], ◌++◌, length, IfOk, OnOk};
 ghost use Rattle.fs_event.specs.Texts as spec;
 
 use crate::event::Event;
@@ -51,7 +51,9 @@ impl EventText {
     }
 
     /// How many bytes there is room for, those of the text among them.
-    pub fn room(&self) -> usize {
+    pub fn room(&self) -> usize
+        ensures { length self.now ≤ result }
+    {
         self.bytes.capacity()
     }
 

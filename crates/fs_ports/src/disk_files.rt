@@ -24,7 +24,10 @@ pub struct DiskFiles<R: rt::Files + Drop> {
 
 impl<R: rt::Files + Drop> DiskFiles<R> {
     /// The files of this system, of which no load has failed yet and no pattern was too large.
-    pub fn new(alloc: Global, system: R) -> DiskFiles<R> {
+    pub fn new(alloc: Global, system: R) -> DiskFiles<R>
+        ensures loads { (result.faults ≡ 0) × (result.absences ≡ 0) }
+        ensures sizes { result.sizes ≡ 0 }
+    {
         DiskFiles {
             alloc,
             system,

@@ -1,5 +1,7 @@
 //! A reader and a writer of the system as one link.
 
+ghost use Rattle.std.specs.Prelude.{◌≡◌};
+
 use crate::counts::raised;
 use crate::port::{Link, Port, Read, Sink, Source, Write};
 use std::io;
@@ -16,7 +18,9 @@ pub struct Stdio<R: io::Read + Drop, W: io::Write + Drop> {
 
 impl<R: io::Read + Drop, W: io::Write + Drop> Stdio<R, W> {
     /// A link of which no call has failed yet.
-    pub fn new(reader: R, writer: W) -> Stdio<R, W> {
+    pub fn new(reader: R, writer: W) -> Stdio<R, W>
+        ensures { (result.read_faults ≡ 0) × (result.write_faults ≡ 0) }
+    {
         Stdio {
             reader,
             writer,

@@ -20,7 +20,9 @@ pub struct TcpDial<'a, R: Net<Listener = TcpListener, Stream = TcpStream> + time
 
 impl<'a, R: Net<Listener = TcpListener, Stream = TcpStream> + time::Clock> TcpDial<'a, R> {
     /// A dialer of which no dial has failed yet.
-    pub fn new(system: &'a R, bells: &'a Bells) -> TcpDial<'a, R> {
+    pub fn new(system: &'a R, bells: &'a Bells) -> TcpDial<'a, R>
+        ensures { result.faults ≡ 0 }
+    {
         TcpDial {
             system,
             bells,

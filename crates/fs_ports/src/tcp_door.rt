@@ -1,5 +1,7 @@
 //! A socket of the system that others connect to.
 
+ghost use Rattle.std.specs.Prelude.{◌≡◌};
+
 use crate::bells::Bells;
 use crate::counts::raised;
 use crate::door::{Accept, Door, Listen};
@@ -21,7 +23,9 @@ pub struct TcpDoor<'a, R: Net<Listener = TcpListener, Stream = TcpStream> + time
 
 impl<'a, R: Net<Listener = TcpListener, Stream = TcpStream> + time::Clock> TcpDoor<'a, R> {
     /// A door that does not listen yet.
-    pub fn new(system: &'a R, bells: &'a Bells) -> TcpDoor<'a, R> {
+    pub fn new(system: &'a R, bells: &'a Bells) -> TcpDoor<'a, R>
+        ensures { result.faults ≡ 0 }
+    {
         TcpDoor {
             system,
             bells,

@@ -1,0 +1,20 @@
+use Rattle.std.proofs.Common.{◌≡◌, ◌∷◌, [], ℕ, None, length}
+use Rattle.std.specs.List.{All}
+use Rattle.fs_book.specs.Passes.{seen, mine, met, parts, opening_state, IsPassOf}
+use Rattle.fs_machine.specs.Turned.{configured}
+use Rattle.fs_top.specs.Lanes.{Keeps, Enters}
+use Rattle.fs_top.specs.Standing.{Stands, ArePlaced, HaveFailed}
+use Rattle.fs_top.proofs.beside.run_beside.Given as goal
+
+abbrev pub invariant-rounds : goal.invariant-rounds
+invariant-rounds g l = record {
+  book : IsPassOf configured l.fn.book l.pass;
+  parts_kept : parts l.pass ≡ parts l.fn.pass;
+  door_kept : l.door ≡ l.fn.door;
+  keeps : Keeps g.D.Link.Port.input g.D.Link.Port.output (Enters (g.C.Clock.tells l.fn.clock) ⊥ None) (configured (opening_state l.fn.book))
+      (seen l.pass) (mine l.pass ∷ met l.pass) [];
+  count : length l.lanes ≡ length l.fn.lanes;
+  stand : All (Stands g.D.Link.Port.input g.D.Link.Port.output (g.C.Clock.tells l.fn.clock) l.fn.book) l.lanes;
+  placed : (slots : ℕ) → ArePlaced slots l.fn.lanes → ArePlaced slots l.lanes;
+  failed : (from : ℕ) → HaveFailed g.O.Dialer.dial_faults from l.fn.lanes → HaveFailed g.O.Dialer.dial_faults from l.lanes;
+}

@@ -1,0 +1,21 @@
+use Rattle.std.proofs.Common.{rules}
+use denote.Exit.{no}
+use denote.Param.Send.{param_send, arg_send}
+use Rattle.fs_top.proofs.PlacedLemmas.{placed_as, failed_all}
+use Rattle.fs_top.proofs.SendLemmas.{lane_send, book_sync, muster_sync, slice_captures_send}
+use Rattle.fs_top.proofs.beside.run_round.Goals as goal
+
+pub join_mut-requires-send-F : goal.join_mut-requires-send-F
+join_mut-requires-send-F g c κs o =
+    param_send _ _
+    (arg_send _ no _
+    (slice_captures_send _ _ _ _ _ _ _ _ _ _ _ _ _ c.type_bounds.sync-R book_sync c.type_bounds.sync-C c.type_bounds.sync-G muster_sync
+    (lane_send _ _ g.D.Link.Port c.type_bounds.send-D-Link c.type_bounds.send-O)))
+
+pub returns-clause-placed : goal.returns-clause-placed
+returns-clause-placed g c = λ slots before.
+    placed_as slots c.join_mut.new.f.5.now _ (search rules) (c.join_mut.ensures.0.met.1.2 slots before)
+
+pub returns-clause-failed : goal.returns-clause-failed
+returns-clause-failed g c = λ from before.
+    failed_all g.O.Dialer.dial_faults from c.join_mut.new.f.5.now _ (search rules) (c.join_mut.ensures.0.met.1.3 from before)

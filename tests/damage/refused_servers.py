@@ -48,8 +48,8 @@ exit
 # Which identifiers are given to channels that have no name depends on the order of the threads.
 IDENTIFIER = re.compile(rb"46530000-0000-8000-8000-[0-9a-f]{12}")
 
-# Whoever works a slot sleeps for eight seconds and more behind a refusal, if nobody wakes it. Longer is stuck.
-SECONDS = 12
+# A server that cannot make all its threads gives up within ten seconds. Longer is stuck.
+SECONDS = 15
 
 # What takes longer than this is told.
 LATE = 2

@@ -426,6 +426,13 @@ keeps_may input output may may' config seen lists conns more keeps = record {
   allowed = λ k places there p entry has at. more entry (keeps.allowed k places there p entry has at);
 }
 
+-- the same connections, as they stand in another list, are kept
+pub keeps_same : {L : Type 0} (input : L → Input) (output : L → Output) (may : Entry → Type 0) (config : Configuration) (seen : List Entry)
+    (lists : List (List ℕ)) (conns conns' : List (Conn L)) → conns' ≡ conns → Keeps input output may config seen lists conns
+    → Keeps input output may config seen lists conns'
+keeps_same {L} input output may config seen lists conns conns' same keeps =
+    subst (λ (cs : List (Conn L)). Keeps input output may config seen lists cs) (sym same) keeps
+
 -- a lane that entered nothing keeps what it kept
 pub keeps_away : {L : Type 0} (input : L → Input) (output : L → Output) (may : Entry → Type 0) (config : Configuration)
     (start : Option Configuration) (seen seen' : List Entry) (mine : List ℕ) (met : List (List ℕ)) (conns : List (Conn L)) →

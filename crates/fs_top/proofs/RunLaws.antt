@@ -31,7 +31,7 @@ use Rattle.fs_conn.proofs.LawLemmas.{config_played, bytes_begin}
 use Rattle.fs_top.specs.Counted.{counts_text}
 use Rattle.fs_top.specs.Told.{Told, Asked, Check, Hunt, Play, Load, file_asked, told_words, told_file, told_read, told_built, told_asked}
 use Rattle.fs_top.specs.Told.{told_play, told_calls, counts_printed, told_text, refused, is_eof, line_of_end, status_of_end, usage_line, cannot_read_line, fault_line}
-use Rattle.fs_top.specs.Told.{pattern_line, memory_line}
+use Rattle.fs_top.specs.Told.{pattern_line}
 use Rattle.fs_top.specs.Runs.{line_of_outcome, status_of_outcome, PlaysTo, CarriesOut, completes, fails_to_write, lacks_memory}
 use Rattle.fs_top.specs.Runs.{fails_for_memory, CarriesOutAs, IsPlayed, Loads, Gives, LoadedAs, Answers, IsPlanBuiltOf, IsBuilt, OverConfig, OverBytes, is_memory, not_read}
 use Rattle.fs_top.specs.Runs.{not_built, Runs, RefusesPattern, Ran, LeavesAlone, RestsAs}

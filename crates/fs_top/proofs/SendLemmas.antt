@@ -29,6 +29,8 @@ use Rattle.fs_top.specs.contracts.slots.SlotLane as SlotLane
 use Rattle.fs_top.specs.contracts.conns.Conn as Conn
 use Rattle.fs_top.specs.contracts.came.Came as Came
 use Rattle.fs_top.proofs.came.Came.TheSendSync as came
+use Rattle.fs_top.specs.contracts.muster.Muster as Muster
+use Rattle.fs_top.proofs.muster.Muster.TheSendSync as muster
 use Rattle.fs_top.proofs.CrossingLemmas.{machine_send}
 
 pub pass_send : IsSend (Pass.the_row Machine.the_row Config.the_row Offer.the_row Entry.the_row Answer.the_row Refusal.the_row ghosts)
@@ -36,6 +38,9 @@ pass_send = search (machine_send, passes.the_send, crosses, sendable) depth 20
 
 pub book_sync : IsSync (Book.the_row Machine.the_row Config.the_row Offer.the_row Entry.the_row Answer.the_row Refusal.the_row ghosts)
 book_sync = search (machine_send, books.the_sync, crosses, sendable) depth 20
+
+pub muster_sync : IsSync Muster.the_row
+muster_sync = muster.the_sync
 
 pub global_sync : IsSync Global.the_row
 global_sync = search (crosses, sendable) depth 20
@@ -70,30 +75,36 @@ slot_send T O s o = declared_send (SlotLane.the_type T O) (
 pub lane_send : (T O : RattleType) (g : port.Ghosts T.Denot) → IsSend T → IsSend O → IsSend (Lane.the_row T O g)
 lane_send T O g s o = variants_send (Lane.enum T O g) ((slot_send T O s o, tt), ((staff_send T g s, tt), tt))
 
--- what a closure captures: a `&` to each of four
-pub captures_sync : (ν : Sym) (A B C D : RattleType) (ℓ ℓ' ℓ'' ℓ''' : NamedLft) → IsSync A → IsSync B → IsSync C → IsSync D →
-    IsSync (TupleAt ν (ShrRef ℓ.mir ℓ.lft A ∷ ShrRef ℓ'.mir ℓ'.lft B ∷ ShrRef ℓ''.mir ℓ''.lft C ∷ ShrRef ℓ'''.mir ℓ'''.lft D ∷ []))
-captures_sync ν A B C D ℓ ℓ' ℓ'' ℓ''' a b c d =
-    declared_sync (type_at ν (ShrRef ℓ.mir ℓ.lft A ∷ ShrRef ℓ'.mir ℓ'.lft B ∷ ShrRef ℓ''.mir ℓ''.lft C ∷ ShrRef ℓ'''.mir ℓ'''.lft D ∷ [])) (
+-- what a closure captures: a `&` to each of five
+pub captures_sync : (ν : Sym) (A B C D E : RattleType) (ℓ ℓ' ℓ'' ℓ''' κ : NamedLft) → IsSync A → IsSync B → IsSync C → IsSync D → IsSync E →
+    IsSync (TupleAt ν (ShrRef ℓ.mir ℓ.lft A ∷ ShrRef ℓ'.mir ℓ'.lft B ∷ ShrRef ℓ''.mir ℓ''.lft C ∷ ShrRef ℓ'''.mir ℓ'''.lft D
+    ∷ ShrRef κ.mir κ.lft E ∷ []))
+captures_sync ν A B C D E ℓ ℓ' ℓ'' ℓ''' κ a b c d e =
+    declared_sync
+    (type_at ν (ShrRef ℓ.mir ℓ.lft A ∷ ShrRef ℓ'.mir ℓ'.lft B ∷ ShrRef ℓ''.mir ℓ''.lft C ∷ ShrRef ℓ'''.mir ℓ'''.lft D
+    ∷ ShrRef κ.mir κ.lft E ∷ [])) (
       as_row_sync (row_field (ShrRef ℓ.mir ℓ.lft A)) (shr_sync ℓ.mir ℓ.lft A a),
       (
         as_row_sync (row_field (ShrRef ℓ'.mir ℓ'.lft B)) (shr_sync ℓ'.mir ℓ'.lft B b),
         (
           as_row_sync (row_field (ShrRef ℓ''.mir ℓ''.lft C)) (shr_sync ℓ''.mir ℓ''.lft C c),
-          (as_row_sync (row_field (ShrRef ℓ'''.mir ℓ'''.lft D)) (shr_sync ℓ'''.mir ℓ'''.lft D d), tt),
+          (
+            as_row_sync (row_field (ShrRef ℓ'''.mir ℓ'''.lft D)) (shr_sync ℓ'''.mir ℓ'''.lft D d),
+            (as_row_sync (row_field (ShrRef κ.mir κ.lft E)) (shr_sync κ.mir κ.lft E e), tt),
+          ),
         ),
       ),
     )
 
--- what a closure captures: a `&` to each of four, and a `&mut` slice
-pub slice_captures_send : (ν : Sym) (A B C D E : RattleType) (ℓ ℓ' ℓ'' ℓ''' κ : NamedLft) → IsSync A → IsSync B → IsSync C → IsSync D →
-    IsSend E →
+-- what a closure captures: a `&` to each of five, and a `&mut` slice
+pub slice_captures_send : (ν : Sym) (A B C D E F : RattleType) (ℓ ℓ' ℓ'' ℓ''' κ κ' : NamedLft) → IsSync A → IsSync B → IsSync C → IsSync D →
+    IsSync E → IsSend F →
     IsSend (TupleAt ν (ShrRef ℓ.mir ℓ.lft A ∷ ShrRef ℓ'.mir ℓ'.lft B ∷ ShrRef ℓ''.mir ℓ''.lft C
-    ∷ ShrRef ℓ'''.mir ℓ'''.lft D ∷ MutSlice κ.mir κ.lft E ∷ []))
-slice_captures_send ν A B C D E ℓ ℓ' ℓ'' ℓ''' κ a b c d e =
+    ∷ ShrRef ℓ'''.mir ℓ'''.lft D ∷ ShrRef κ.mir κ.lft E ∷ MutSlice κ'.mir κ'.lft F ∷ []))
+slice_captures_send ν A B C D E F ℓ ℓ' ℓ'' ℓ''' κ κ' a b c d e f =
     declared_send
     (type_at ν (ShrRef ℓ.mir ℓ.lft A ∷ ShrRef ℓ'.mir ℓ'.lft B ∷ ShrRef ℓ''.mir ℓ''.lft C
-    ∷ ShrRef ℓ'''.mir ℓ'''.lft D ∷ MutSlice κ.mir κ.lft E ∷ [])) (
+    ∷ ShrRef ℓ'''.mir ℓ'''.lft D ∷ ShrRef κ.mir κ.lft E ∷ MutSlice κ'.mir κ'.lft F ∷ [])) (
       as_row_send (row_field (ShrRef ℓ.mir ℓ.lft A)) (shr_send ℓ.mir ℓ.lft A a),
       (
         as_row_send (row_field (ShrRef ℓ'.mir ℓ'.lft B)) (shr_send ℓ'.mir ℓ'.lft B b),
@@ -101,7 +112,10 @@ slice_captures_send ν A B C D E ℓ ℓ' ℓ'' ℓ''' κ a b c d e =
           as_row_send (row_field (ShrRef ℓ''.mir ℓ''.lft C)) (shr_send ℓ''.mir ℓ''.lft C c),
           (
             as_row_send (row_field (ShrRef ℓ'''.mir ℓ'''.lft D)) (shr_send ℓ'''.mir ℓ'''.lft D d),
-            (as_row_send (row_field (MutSlice κ.mir κ.lft E)) (mut_slice_send κ.mir κ.lft E e), tt),
+            (
+              as_row_send (row_field (ShrRef κ.mir κ.lft E)) (shr_send κ.mir κ.lft E e),
+              (as_row_send (row_field (MutSlice κ'.mir κ'.lft F)) (mut_slice_send κ'.mir κ'.lft F f), tt),
+            ),
           ),
         ),
       ),

@@ -44,7 +44,7 @@ use Rattle.fs_top.specs.Runs.{is_memory, not_read, not_built}
 use Rattle.fs_top.specs.Told.{cannot_read_line}
 use Rattle.fs_top.proofs.ShutdownLaws.{shuts_down, halts_by}
 use Rattle.fs_top.specs.Serving.{line_of_course, status_of_course, IsReadAs, IsUnread, IsNoDocument, Concludes, Ends, IsNothing, ServesConfig}
-use Rattle.fs_top.specs.Serving.{TellsUnread, ServesAs, no_machine}
+use Rattle.fs_top.specs.Serving.{ServesAs, no_machine}
 use Rattle.fs_top.specs.Serving.{unheard, served, ServesBytes, no_config, faulty, unbuilt, configured, Serves, no_file, unread, read, IsStatus}
 
 -- ---- the door

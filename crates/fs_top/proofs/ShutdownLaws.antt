@@ -56,29 +56,29 @@ use Rattle.fs_machine.specs.declared.entry.Closing.{Closing}
 use Rattle.fs_machine.specs.declared.entry.Closing.TheVariants as closing
 use Rattle.fs_machine.specs.declared.entry.Entry.{Entry}
 use Rattle.fs_machine.specs.declared.refusal.Refusal.TheVariants as refusal
-use Rattle.fs_machine.specs.Api.{kill_done, variable_set_on, variable_set_at, sleep_begun, dialed, originate_done, chan_named}
+use Rattle.fs_machine.specs.Api.{kill_done, variable_set_on, variable_set_at, dialed, chan_named}
 use Rattle.fs_machine.specs.Api.{done_plainly, done_expanded, done_over, done_by}
 use Rattle.fs_machine.specs.Applications.{unless_too_long, argument_in}
 use Rattle.fs_machine.specs.Attempts.{originate_begun, first_group, with_group}
 use Rattle.fs_machine.specs.Commands.{after_password, with_response_of, with_response, after_subscribing, with_filter_added, with_filters_deleted}
-use Rattle.fs_machine.specs.Commands.{after_silence, after_deletion, after_background, queued_on, message_done, message_done_at, message_done_to}
-use Rattle.fs_machine.specs.Commands.{message_sent, control_at, controlled_uuid, may_command_all, unless_denied, greeted_by, after_connect}
+use Rattle.fs_machine.specs.Commands.{after_silence, after_deletion, after_background, queued_on, message_done_at, message_done_to}
+use Rattle.fs_machine.specs.Commands.{message_sent, control_at, controlled_uuid, may_command_all, unless_denied, greeted_by}
 use Rattle.fs_machine.specs.Commands.{command_done_in, command_done}
 use Rattle.fs_machine.specs.Connections.{phase_at, conn_changed, admitted, parted, with_subs_changed, owed_since, not_owed, subs_at}
-use Rattle.fs_machine.specs.Controlling.{dial_at, has_hold, taken_hold, after_dial_of, after_dial, after_letting_go, greeting_for}
-use Rattle.fs_machine.specs.Done.{Done, says, no_reply_yet}
+use Rattle.fs_machine.specs.Controlling.{dial_at, has_hold, taken_hold, after_dial_of, after_letting_go, greeting_for}
+use Rattle.fs_machine.specs.Done.{Done}
 use Rattle.fs_machine.specs.Hangups.{all_slots}
 use Rattle.fs_machine.specs.Jobs.{told_if, after_run, after_job_work, job_done_from, job_done}
 use Rattle.fs_machine.specs.Joining.{both_left, both_queues_left, in_the_way, both_in_media, joined_done, bridged_unless, bridge_done_at}
 use Rattle.fs_machine.specs.Joining.{uuid_bridge_done, is_ready, queue_left}
-use Rattle.fs_machine.specs.Leaving.{after_departure, after_farewell, after_arrival, sent_at, sent_done}
+use Rattle.fs_machine.specs.Leaving.{after_departure, after_arrival, sent_at, sent_done}
 use Rattle.fs_machine.specs.Originations.{after_winning, group_made}
 use Rattle.fs_machine.specs.Owing.{after_owing, after_job_begin, background_begun, after_job_end}
 use Rattle.fs_machine.specs.Runs.{run_from, IsRunFrom}
 use Rattle.fs_machine.specs.Shutdown.{after_shutdown}
 use Rattle.fs_machine.specs.Step.{refused_act, refusal_of, after_close, acted, step}
 use Rattle.fs_machine.specs.Work.{after_work}
-use Rattle.fs_machine.specs.Texts.{ok, made_text, failed_text, too_many_jobs, no_channel, not_ready}
+use Rattle.fs_machine.specs.Texts.{ok, made_text, failed_text}
 use Rattle.fs_machine.proofs.AbortLemmas.{queue_left_kept, queues_left_kept}
 use Rattle.fs_machine.proofs.FrontLemmas.{conn_unread}
 use Rattle.fs_machine.proofs.JoinLemmas.{apart_now}
@@ -91,7 +91,7 @@ use Rattle.fs_machine.proofs.StillMoves.{stays_stopping}
 use Rattle.fs_machine.proofs.TryWalk.{verdict_kept}
 use Rattle.fs_machine.proofs.Walk.{let_go_kept}
 use Rattle.fs_top.specs.Headline.{is_halt}
-use Rattle.fs_top.specs.Shutdowns.{text_expanded, run_for, RunsShutdown, ShutsDown}
+use Rattle.fs_top.specs.Shutdowns.{run_for, RunsShutdown, ShutsDown}
 
 -- a switch has come to its end just where another one has, and by the same entry
 abbrev Stays : Switch → Fact

@@ -1,5 +1,5 @@
 -- Which entries run `fsctl shutdown`.
-use Rattle.std.specs.Prelude.{◌≡◌, ℕ, Option, None, Some, option_map}
+use Rattle.std.specs.Prelude.{◌≡◌, Option, None, Some, option_map}
 use Rattle.std.specs.Option.{option_and_then}
 use Rattle.fs_text.specs.Texts.{Text}
 use Rattle.fs_vars.specs.Expansion.{expanded}

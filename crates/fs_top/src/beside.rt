@@ -1,6 +1,6 @@
 //! All threads of a server.
 
-ghost use Rattle.std.specs.Prelude.{◌≡◌, ℕ, [], ◌∷◌, length, None};
+ghost use Rattle.std.specs.Prelude.{◌≡◌, ℕ, false, [], ◌∷◌, length, None};
 ghost use Rattle.std.specs.List.{All};
 ghost use Rattle.fs_book.specs.Passes.{seen, mine, met, parts, opening_state, IsPassOf};
 ghost use Rattle.fs_machine.specs.Turned.{configured};
@@ -8,16 +8,21 @@ ghost use Rattle.fs_top.specs.Doors.{Rose};
 ghost use Rattle.fs_top.specs.Lanes.{Keeps, Enters};
 ghost use Rattle.fs_top.specs.Standing.{Stands, ArePlaced, HaveFailed};
 
-use crate::accepting::accept_all;
+use crate::accepting::accept_beside;
 use crate::came::Came;
 use crate::lanes::{Lane, run_lanes};
+use crate::muster::Muster;
 use fs_book::{Book, Pass};
 use fs_machine::Machine;
 use fs_ports::{Clock, Dialer, Door, Gates};
 use std::sync::Wait;
 use std::thread::{Threads, join_mut};
 
-/// Runs all lanes, and takes links in beside them, until all have come to their end.
+// How often all threads are tried to be made.
+const ROUNDS: usize = 3;
+
+/// Runs all lanes, and takes links in beside them, until all have come to their end, and answers true. Where not all
+/// threads can be made nothing is done, and after so many rounds the answer is false.
 pub(crate) fn run_beside<
     R: Threads + Wait + Sync,
     D: Door + Send,
@@ -33,7 +38,7 @@ pub(crate) fn run_beside<
     door: &mut D,
     pass: &mut Pass<Machine>,
     lanes: &mut [Lane<D::Link, O>],
-)
+) -> bool
     requires book { IsPassOf configured book.now pass.old }
     requires keeps { Keeps D.Link.input D.Link.output (Enters (C.tells clock.now) ⊥ None)
         (configured (opening_state book.now)) (seen pass.old) (mine pass.old ∷ met pass.old) [] }
@@ -48,7 +53,49 @@ pub(crate) fn run_beside<
     ensures placed { (slots : ℕ) → ArePlaced slots lanes.old → ArePlaced slots lanes.new }
     ensures failed { (from : ℕ) → HaveFailed O.dial_faults from lanes.old → HaveFailed O.dial_faults from lanes.new }
 {
-    join_mut(
+    'rounds: for _ in 0..ROUNDS {
+        let muster = Muster::of(lanes.len().saturating_add(1));
+        if run_round(rt, book, came, clock, gates, &muster, door, pass, lanes) {
+            return true;
+        }
+    }
+    false
+}
+
+// Tries to make all threads. Answers whether all have begun, and then all have come to their end.
+fn run_round<
+    R: Threads + Wait + Sync,
+    D: Door + Send,
+    O: Dialer<Link = D::Link>,
+    C: Clock,
+    G: Gates<Gate: Send>,
+>(
+    rt: &R,
+    book: &Book<Machine>,
+    came: &Came<D::Link>,
+    clock: &C,
+    gates: &G,
+    muster: &Muster,
+    door: &mut D,
+    pass: &mut Pass<Machine>,
+    lanes: &mut [Lane<D::Link, O>],
+) -> bool
+    requires book { IsPassOf configured book.now pass.old }
+    requires keeps { Keeps D.Link.input D.Link.output (Enters (C.tells clock.now) ⊥ None)
+        (configured (opening_state book.now)) (seen pass.old) (mine pass.old ∷ met pass.old) [] }
+    requires lanes { All (Stands D.Link.input D.Link.output (C.tells clock.now) book.now) lanes.old }
+    ensures book { IsPassOf configured book.now pass.new }
+    ensures parts { parts pass.new ≡ parts pass.old }
+    ensures keeps { Keeps D.Link.input D.Link.output
+        (Enters (C.tells clock.now) (Rose (D.door_faults door.old) (D.door_faults door.new)) None)
+        (configured (opening_state book.now)) (seen pass.new) (mine pass.new ∷ met pass.new) [] }
+    ensures count { length lanes.new ≡ length lanes.old }
+    ensures lanes { All (Stands D.Link.input D.Link.output (C.tells clock.now) book.now) lanes.new }
+    ensures placed { (slots : ℕ) → ArePlaced slots lanes.old → ArePlaced slots lanes.new }
+    ensures failed { (from : ℕ) → HaveFailed O.dial_faults from lanes.old → HaveFailed O.dial_faults from lanes.new }
+    ensures nothing { result ≡ false → (pass.new ≡ pass.old) × (door.new ≡ door.old) }
+{
+    let ((), began) = join_mut(
         rt,
         &mut || -> ()
             requires { All (Stands D.Link.input D.Link.output (C.tells clock.now) book.now) lanes.now }
@@ -57,8 +104,8 @@ pub(crate) fn run_beside<
                 × ((slots : ℕ) → ArePlaced slots lanes.entry.now → ArePlaced slots lanes.exit.now)
                 × ((from : ℕ) → HaveFailed O.dial_faults from lanes.entry.now
                 → HaveFailed O.dial_faults from lanes.exit.now) }
-        { run_lanes(rt, book, clock, gates, lanes) },
-        &mut || -> ()
+        { run_lanes(rt, book, clock, gates, muster, lanes) },
+        &mut || -> bool
             requires { IsPassOf configured book.now pass.now
                 × Keeps D.Link.input D.Link.output (Enters (C.tells clock.now) ⊥ None)
                 (configured (opening_state book.now)) (seen pass.now) (mine pass.now ∷ met pass.now) [] }
@@ -68,7 +115,9 @@ pub(crate) fn run_beside<
                 (Enters (C.tells clock.entry.now) (Rose (D.door_faults door.entry.now) (D.door_faults door.exit.now))
                 None)
                 (configured (opening_state book.entry.now)) (seen pass.exit.now)
-                (mine pass.exit.now ∷ met pass.exit.now) [] }
-        { accept_all(rt, book, came, clock, door, pass) },
+                (mine pass.exit.now ∷ met pass.exit.now) []
+                × (result ≡ false → (pass.exit.now ≡ pass.entry.now) × (door.exit.now ≡ door.entry.now)) }
+        { accept_beside(rt, book, came, clock, muster, door, pass) },
     );
+    began
 }

@@ -13,6 +13,7 @@ ghost use Rattle.fs_top.specs.Standing.{SlotHolds, SlotStands, DialsFailed, vain
 
 use crate::conns::Conn;
 use crate::laning::{keep, serve_conn};
+use crate::rest::rest;
 use crate::slots::SlotLane;
 use crate::turning::{Pause, run_turns};
 use fs_book::{Book, Pass};
@@ -105,7 +106,7 @@ fn talk<R: Threads + Wait + Sync, L: Link, O: Dialer<Link = L>, C: Clock, G: Gat
     ensures failed { (from : ℕ) → DialsFailed O.dial_faults from lane.old → DialsFailed O.dial_faults from lane.new }
 {
     if lane.conns.reserve(1).is_err() {
-        clock.nap();
+        rest(clock);
         return;
     }
     let mut theirs = book.split(&mut lane.pass, 1);
@@ -158,7 +159,7 @@ fn dial<R: Threads + Wait + Sync, L: Link, O: Dialer<Link = L>, C: Clock, G: Gat
             None
         }
         Talked::Refused(Refusal::Memory) => {
-            clock.nap();
+            rest(clock);
             None
         }
         Talked::Idle | Talked::Refused(_) => None,

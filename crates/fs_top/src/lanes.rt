@@ -8,6 +8,7 @@ use crate::came::Came;
 use crate::conns::Conn;
 use crate::dialing::run_slot;
 use crate::laning::serve_links;
+use crate::muster::Muster;
 use crate::slots::SlotLane;
 use crate::turning::run_turns;
 use fs_book::{Book, Pass};
@@ -120,12 +121,21 @@ fn sleeper_of(kind: StaffKind) -> Sleeper {
     }
 }
 
-// Runs one lane.
+// Who sleeps where a lane waits for the others.
+fn sleeper_in<L: Link, O>(lane: &Lane<L, O>) -> Sleeper {
+    match lane {
+        Lane::Slot(lane) => Sleeper::Slot(lane.slot),
+        Lane::Staff(staff) => sleeper_of(staff.kind),
+    }
+}
+
+// Runs one lane, once all have begun. Where somebody does not begin, nothing is done.
 fn run_lane<R: Threads + Wait + Sync, L: Link, O: Dialer<Link = L>, C: Clock, G: Gates>(
     rt: &R,
     book: &Book<Machine>,
     clock: &C,
     gates: &G,
+    muster: &Muster,
     lane: &mut Lane<L, O>,
 )
     requires { Stands L.input L.output (C.tells clock.now) book.now lane.old }
@@ -133,20 +143,23 @@ fn run_lane<R: Threads + Wait + Sync, L: Link, O: Dialer<Link = L>, C: Clock, G:
     ensures placed { (slots at : ℕ) → IsPlaced slots at lane.old → IsPlaced slots at lane.new }
     ensures failed { (from : ℕ) → HasFailed O.dial_faults from lane.old → HasFailed O.dial_faults from lane.new }
 {
+    if !muster.begin(rt, &clock.of_sleeper(sleeper_in(lane))) {
+        return;
+    }
     match lane {
         Lane::Slot(lane) => run_slot(rt, book, clock, gates, lane),
         Lane::Staff(staff) => run_staff(rt, book, clock, staff),
     }
 }
 
-/// Runs all lanes beside one another, each in a thread of its own.
+/// Runs all lanes beside one another, each in a thread of its own, once all whom the muster has have begun.
 pub(crate) fn run_lanes<
     R: Threads + Wait + Sync,
     L: Link,
     O: Dialer<Link = L>,
     C: Clock,
     G: Gates<Gate: Send>,
->(rt: &R, book: &Book<Machine>, clock: &C, gates: &G, lanes: &mut [Lane<L, O>])
+>(rt: &R, book: &Book<Machine>, clock: &C, gates: &G, muster: &Muster, lanes: &mut [Lane<L, O>])
     requires { All (Stands L.input L.output (C.tells clock.now) book.now) lanes.old }
     ensures stand { All (Stands L.input L.output (C.tells clock.now) book.now) lanes.new }
     ensures count { length lanes.new ≡ length lanes.old }
@@ -167,6 +180,6 @@ pub(crate) fn run_lanes<
                 × ((slots at : ℕ) → IsPlaced slots at lane.entry.now → IsPlaced slots at lane.exit.now)
                 × ((from : ℕ) → HasFailed O.dial_faults from lane.entry.now
                 → HasFailed O.dial_faults from lane.exit.now) }
-        { run_lane(rt, book, clock, gates, lane) },
+        { run_lane(rt, book, clock, gates, muster, lane) },
     );
 }

@@ -13,6 +13,7 @@ ghost use Rattle.fs_top.specs.Lanes.{Keeps, Enters};
 use crate::came::Came;
 use crate::conns::Conn;
 use crate::ending::is_ending;
+use crate::rest::rest;
 use fs_book::{Book, Pass};
 use fs_conn::{End, converse, welcome};
 use fs_machine::{Machine, Refusal};
@@ -106,14 +107,15 @@ pub(crate) fn serve_links<R: Wait, C: Clock, L: Link>(
         if is_ending(rt, book, pass) {
             return;
         }
-        if !serve_next(rt, alloc, book, came, pass, sleeper, clock, conns) {
+        if conns.reserve(1).is_err() {
+            rest(clock);
+        } else if !serve_next(rt, alloc, book, came, pass, sleeper, clock, conns) {
             clock.nap();
         }
     }
 }
 
-// Serves the first link that waits, and says whether there was one, and room for its connection, and it was not turned
-// away.
+// Serves the first link that waits, and says whether there was one, and it was not turned away.
 fn serve_next<R: Wait, C: Clock, L: Link>(
     rt: &R,
     alloc: Global,
@@ -125,6 +127,7 @@ fn serve_next<R: Wait, C: Clock, L: Link>(
     conns: &mut Vec<Conn<L>>,
 ) -> bool
     requires book { IsPassOf configured book.now pass.old }
+    requires room { vec_len conns.old < vec_capacity conns.old }
     requires keeps { Keeps L.input L.output (Enters (C.tells clock.now) ⊥ None) (configured (opening_state book.now))
         (seen pass.old) (mine pass.old ∷ met pass.old) conns.old.items }
     ensures book { IsPassOf configured book.now pass.new }
@@ -132,9 +135,6 @@ fn serve_next<R: Wait, C: Clock, L: Link>(
     ensures keeps { Keeps L.input L.output (Enters (C.tells clock.now) ⊥ None) (configured (opening_state book.now))
         (seen pass.new) (mine pass.new ∷ met pass.new) conns.new.items }
 {
-    if conns.reserve(1).is_err() {
-        return false;
-    }
     let Some(mut link) = came.take(rt) else {
         return false;
     };

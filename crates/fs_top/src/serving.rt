@@ -103,8 +103,9 @@ impl<'a, L: Link, O: Drop> Ran<'a, L, O> {
 /// until a `fsctl shutdown` ends the switch, its journal is full, or the door fails. For a channel that waits for a
 /// controller a twin of the dialer dials it, and its connection is served beside the others.
 ///
-/// On `err` it prints one line where the status is not 0. A fault of `err` changes no status. Where no thread can be
-/// made, what should run beside one another runs one after another, and may never end.
+/// On `err` it prints one line where the status is not 0. A fault of `err` changes no status. Where not all threads can
+/// be made with which it begins, nobody is taken in, and that is told as want of memory after some seconds. Where none
+/// can be made for the connection of a controller, that is served behind the turns of its slot.
 pub fn serve<
     R: Threads + Wait + Sync,
     F: Files,
@@ -511,7 +512,7 @@ fn serve_to_end<
         kinds_for(alloc, links)?,
         &mut lanes,
     )?;
-    run_beside(
+    let began = run_beside(
         rt,
         book,
         &came,
@@ -521,6 +522,9 @@ fn serve_to_end<
         pass,
         lanes.as_mut_slice(),
     );
+    if !began {
+        return Err(Memory);
+    }
     let gathered = gather(alloc, book, pass, clock, slots, lanes)?;
     settle(rt, book, pass, clock);
     Ok(gathered)

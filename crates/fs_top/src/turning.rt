@@ -7,6 +7,7 @@ ghost use Rattle.fs_top.specs.Dials.{vain_in};
 ghost use Rattle.fs_top.specs.Lanes.{Keeps, Enters, slot_of};
 
 use crate::conns::Conn;
+use crate::rest::rest;
 use fs_book::{Book, Pass};
 use fs_machine::{Machine, Refusal};
 use fs_out::Target;
@@ -63,12 +64,14 @@ fn gated_slot(actor: Actor) -> u16 {
     }
 }
 
-// Wakes whoever has something to do behind a turn, or naps, unless it is the last one.
+// Wakes whoever has something to do behind a turn, or naps, unless it is the last one. Who was refused for memory still
+// has it to do, and so rests alone.
 fn follow<C: Clock>(worked: Worked, clock: &C) -> Option<Pause> {
     match worked {
         Worked::Did(_, wakes) => clock.wake(&wakes),
         Worked::Idle { next: Some(moment) } => clock.nap_until(moment),
-        Worked::Idle { next: None } | Worked::Refused(Refusal::Memory) => clock.nap(),
+        Worked::Idle { next: None } => clock.nap(),
+        Worked::Refused(Refusal::Memory) => rest(clock),
         Worked::Talk(target) => return Some(Pause::Talk(target)),
         Worked::Stopped | Worked::Refused(_) => return Some(Pause::Over),
     }

@@ -5,8 +5,8 @@ use Rattle.fs_top.proofs.PlacedLemmas.{placed_as, failed_all}
 use Rattle.fs_top.proofs.SendLemmas.{lane_send, book_sync, muster_sync, slice_captures_send}
 use Rattle.fs_top.proofs.beside.run_round.Goals as goal
 
-pub join_mut-requires-send-F : goal.join_mut-requires-send-F
-join_mut-requires-send-F g c κs o =
+pub join_mut-began-requires-send-F : goal.join_mut-began-requires-send-F
+join_mut-began-requires-send-F g c κs o =
     param_send _ _
     (arg_send _ no _
     (slice_captures_send _ _ _ _ _ _ _ _ _ _ _ _ _ c.type_bounds.sync-R book_sync c.type_bounds.sync-C c.type_bounds.sync-G muster_sync
@@ -14,8 +14,8 @@ join_mut-requires-send-F g c κs o =
 
 pub returns-clause-placed : goal.returns-clause-placed
 returns-clause-placed g c = λ slots before.
-    placed_as slots c.join_mut.new.f.5.now _ (search rules) (c.join_mut.ensures.0.met.1.2 slots before)
+    placed_as slots c.join_mut-began.new.f.5.now _ (search rules) (c.join_mut-began.ensures.0.met.1.2 slots before)
 
 pub returns-clause-failed : goal.returns-clause-failed
 returns-clause-failed g c = λ from before.
-    failed_all g.O.Dialer.dial_faults from c.join_mut.new.f.5.now _ (search rules) (c.join_mut.ensures.0.met.1.3 from before)
+    failed_all g.O.Dialer.dial_faults from c.join_mut-began.new.f.5.now _ (search rules) (c.join_mut-began.ensures.0.met.1.3 from before)

@@ -2,7 +2,7 @@ use Rattle.std.proofs.Common.{◌<◌, length, arith, subst, sym}
 use denote.Exit.{no}
 use denote.Param.Send.{param_send, param_sync, arg_send, arg_sync}
 use Rattle.fs_top.specs.Standing.{IsPlaced, HasFailed}
-use Rattle.fs_top.proofs.SendLemmas.{lane_send, book_sync, captures_sync}
+use Rattle.fs_top.proofs.SendLemmas.{lane_send, book_sync, muster_sync, captures_sync}
 use Rattle.fs_top.proofs.lanes.run_lanes.Goals as goal
 
 pub for_each_mut-requires-send-T : goal.for_each_mut-requires-send-T
@@ -11,7 +11,7 @@ for_each_mut-requires-send-T g c κs o = param_send _ _ (arg_send _ no _ (lane_s
 pub for_each_mut-requires-sync-F : goal.for_each_mut-requires-sync-F
 for_each_mut-requires-sync-F g c κs o =
     param_sync _ _
-    (arg_sync _ no _ (captures_sync _ _ _ _ _ _ _ _ _ c.type_bounds.sync-R book_sync c.type_bounds.sync-C c.type_bounds.sync-G))
+    (arg_sync _ no _ (captures_sync _ _ _ _ _ _ _ _ _ _ _ c.type_bounds.sync-R book_sync c.type_bounds.sync-C c.type_bounds.sync-G muster_sync))
 
 pub returns-clause-placed : goal.returns-clause-placed
 returns-clause-placed g c = λ slots before at lane inside.

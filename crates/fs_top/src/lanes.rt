@@ -121,14 +121,6 @@ fn sleeper_of(kind: StaffKind) -> Sleeper {
     }
 }
 
-// Who sleeps where a lane waits for the others.
-fn sleeper_in<L: Link, O>(lane: &Lane<L, O>) -> Sleeper {
-    match lane {
-        Lane::Slot(lane) => Sleeper::Slot(lane.slot),
-        Lane::Staff(staff) => sleeper_of(staff.kind),
-    }
-}
-
 // Runs one lane, once all have begun. Where somebody does not begin, nothing is done.
 fn run_lane<R: Threads + Wait + Sync, L: Link, O: Dialer<Link = L>, C: Clock, G: Gates>(
     rt: &R,
@@ -143,7 +135,7 @@ fn run_lane<R: Threads + Wait + Sync, L: Link, O: Dialer<Link = L>, C: Clock, G:
     ensures placed { (slots at : ℕ) → IsPlaced slots at lane.old → IsPlaced slots at lane.new }
     ensures failed { (from : ℕ) → HasFailed O.dial_faults from lane.old → HasFailed O.dial_faults from lane.new }
 {
-    if !muster.begin(rt, &clock.of_sleeper(sleeper_in(lane))) {
+    if !muster.begin(rt) {
         return;
     }
     match lane {

@@ -1,13 +1,14 @@
 //! Those who run beside one another begin together, or not at all.
 
-use fs_ports::Clock;
 use std::sync::{Mutex, Wait};
+use std::thread::Parker;
+use std::time::Duration;
 
-// Where nobody more has begun for so many microseconds, those who have are sent away.
-const PATIENCE: u64 = 3_000_000;
+// How long who waits for others naps, in milliseconds.
+const NAP: u64 = 2;
 
-// How long who waits for others naps, in microseconds.
-const NAP: u64 = 5_000;
+// Where nobody more has begun for so many naps, which are three seconds, those who have are sent away.
+const PATIENCE: u32 = 1_500;
 
 /// How far a muster has come.
 #[derive(Clone, Copy, Debug)]
@@ -60,21 +61,27 @@ impl Muster {
         }
     }
 
-    /// Begins as one of them, and waits for the others by a clock. Answers whether all have begun.
-    pub(crate) fn begin<R: Wait, C: Clock>(&self, rt: &R, clock: &C) -> bool {
+    /// Begins as one of them, and waits for the others. Answers whether all have begun.
+    ///
+    /// Threads begin in the time of the system, so that is what the naps take, whatever the clock of the switch tells.
+    pub(crate) fn begin<R: Wait>(&self, rt: &R) -> bool {
         self.come(rt);
+        let parker = Parker::new();
         let mut seen = 0;
-        let mut since = clock.now();
+        let mut naps = 0;
         'naps: for _ in rt.forever() {
             match self.stand(rt) {
                 Stand::Whole => return true,
                 Stand::Off => return false,
                 Stand::Open(begun) if begun != seen => {
                     seen = begun;
-                    since = clock.now();
+                    naps = 0;
                 }
-                Stand::Open(_) if clock.now() > since.saturating_add(PATIENCE) => self.call_off(rt),
-                Stand::Open(_) => clock.nap_until(clock.now().saturating_add(NAP)),
+                Stand::Open(_) if naps >= PATIENCE => self.call_off(rt),
+                Stand::Open(_) => {
+                    parker.park_timeout(rt, Duration::from_millis(NAP));
+                    naps += 1;
+                }
             }
         }
         unreachable!()

@@ -38,7 +38,7 @@ pub(crate) fn accept_beside<R: Wait, D: Door, C: Clock>(
         (configured (opening_state book.now)) (seen pass.new) (mine pass.new ∷ met pass.new) [] }
     ensures nothing { result ≡ false → (pass.new ≡ pass.old) × (door.new ≡ door.old) }
 {
-    if !muster.begin(rt) {
+    if !muster.begin_last(rt) {
         return false;
     }
     accept_all(rt, book, came, clock, door, pass);

@@ -6,8 +6,8 @@ use Rattle.fs_top.specs.Lanes.{Enters}
 use Rattle.fs_top.proofs.LaneLemmas.{keeps_may}
 use Rattle.fs_top.proofs.accepting.accept_beside.Goals as goal
 
-pub returns-then-not-begin-clause-keeps : goal.returns-then-not-begin-clause-keeps
-returns-then-not-begin-clause-keeps g c =
+pub returns-then-not-begin_last-clause-keeps : goal.returns-then-not-begin_last-clause-keeps
+returns-then-not-begin_last-clause-keeps g c =
     let tells = g.C.Clock.tells c.args.clock.now in
     let first = g.D.Door.door_faults c.args.door.now in
     let pass = c.args.pass.now in

@@ -36,6 +36,7 @@ class Measured:
         self.rate = len(times) / seconds
         self.middle = times[len(times) // 2]
         self.late = times[len(times) * 99 // 100]
+        self.longest = times[-1]
 
 
 def work(make, seconds, gate, results):

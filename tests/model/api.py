@@ -385,7 +385,7 @@ def sched_del(switch, words):
     return f"+OK Deleted: {switch.tasks.delete(need(words, 1)[0])}\n"
 
 
-@command("reloadxml", commands=COMING)
+@command("reloadxml")
 def reloadxml(switch, _words):
     """The file is read again by a job, where there is room for that in the journal."""
     need_job(switch)

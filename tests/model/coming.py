@@ -5,8 +5,7 @@ from held import Held
 from hourly import Hourly
 from joined import Joined
 from json_events import Json
-from reloaded import Reloaded
 from scheduled import Scheduled
 
-ALL = (Joined, Hourly, Scheduled, Json, Held, Reloaded, Everything)
+ALL = (Joined, Hourly, Scheduled, Json, Held, Everything)
 COMING_KINDS = {kind.__name__.lower(): kind for kind in ALL}

@@ -23,11 +23,14 @@ import hunts
 import load
 from coming import COMING_KINDS
 from kinds import KINDS
+from reloaded import Reloaded
 from session import Result, Session
 
 FILE = "FILE"
 
 TOP = pathlib.Path(__file__).resolve().parents[2]
+
+KNOWN_KINDS = KINDS | {"reloaded": Reloaded}
 
 
 @dataclass(frozen=True)
@@ -68,7 +71,7 @@ def made_hunt(seed):
 
 def makers(coming):
     """What makes the plays of each kind of a seed."""
-    kinds = KINDS | COMING_KINDS if coming else KINDS
+    kinds = KNOWN_KINDS | COMING_KINDS if coming else KNOWN_KINDS
     made = {name: partial(made_play, kind, coming=coming) for name, kind in kinds.items()} | {"load": made_load}
     return made | {"hunts": made_hunt} if coming else made
 

@@ -368,7 +368,7 @@ def usages():
     }
     yield answers(*expected), [f"-USAGE: {usage}\n" for usage in expected.values()]
     others = COMMANDS.keys() - expected.keys()
-    yield others, {"echo", "create_uuid", "global_getvar", "hupall"}
+    yield others, {"echo", "create_uuid", "global_getvar", "hupall", "reloadxml"}
 
 
 @row("what is missed first")
@@ -566,9 +566,9 @@ def queued(*lines, document=None):
     return play(document or queue_document(), *lines)
 
 
-def coming(*lines, document=None, loads=None):
-    """A play in which the model knows what is still to come, also of loads of the file."""
-    return Played(document or usual_document(), blocks("auth ClueCon", *lines), coming=True, loads=loads)
+def coming(*lines, document=None):
+    """A play in which the model knows what is still to come."""
+    return Played(document or usual_document(), blocks("auth ClueCon", *lines), coming=True)
 
 
 def events(played):
@@ -1908,12 +1908,17 @@ def other_document(**settings):
     return Document({"default": extensions}, **settings)
 
 
+def loaded(*lines, document=None, loads=None):
+    """A play of loads of the file."""
+    return Played(document or usual_document(), blocks("auth ClueCon", *lines), loads=loads)
+
+
 def reloaded(*lines, document=None, loads=None):
     """The documents that the file has when it is read again."""
-    return coming(*lines, document=document, loads=loads and map(document_load, loads))
+    return loaded(*lines, document=document, loads=loads and map(document_load, loads))
 
 
-@row("the file is read again, and has another document", COMING_ROWS)
+@row("the file is read again, and has another document")
 def read_again():
     lines = (call("ans"), "api reloadxml", call("ans"), f"api uuid_exists {FIRST}", "api expand echo ${x}")
     said = reloaded(*lines, loads=[other_document()])
@@ -1926,7 +1931,7 @@ def read_again():
     yield said.bodies(), [RELOADED, NO_ROOM, RELOADED, f"+OK {identifier(3)}\n", RELOADED, refused]
 
 
-@row("the file is no document, or is gone", COMING_ROWS)
+@row("the file is no document, or is gone")
 def no_document():
     refusals = (
         refused_load("<document", "Truncated at 9"),
@@ -1935,33 +1940,33 @@ def no_document():
         NO_FILE,
     )
     for refusal in refusals:
-        said = coming("api reloadxml", call("ans"), loads=[refusal])
+        said = loaded("api reloadxml", call("ans"), loads=[refusal])
         yield said.bodies(), [f"-ERR {refusal.refusal}\n", GOES_ON]
 
 
-@row("what a load costs", COMING_ROWS)
+@row("what a load costs")
 def cost_of_load():
     for load in (document_load(usual_document()), refused_load("<document", "Truncated at 9"), NO_FILE):
-        said = coming("api reloadxml", loads=[load])
+        said = loaded("api reloadxml", loads=[load])
         commands = len("auth ClueCon\n\napi reloadxml\n\n")
         # the connection, two commands, the load, three frames, the end of the input, and that of the connection
         yield said.session.journal.cost, 64 * 9 + commands + load.length
     yield len(usual_document().written()) > 9, True
 
 
-@row("whether the journal has room for a load", COMING_ROWS)
+@row("whether the journal has room for a load")
 def room_for_load():
     refused = "-ERR journal limit\n"
-    yield coming("api reloadxml", document=Document({}, journal_limit=1048576)).bodies(), [refused]
+    yield loaded("api reloadxml", document=Document({}, journal_limit=1048576)).bodies(), [refused]
     watched, job = "event plain BACKGROUND_JOB", "bgapi reloadxml"
     begun = 64 + len(f"{watched}\n\n") + 64 + 64 + len(f"{job}\n\n")
     for more, answer in ((0, RELOADED), (-1, refused)):
         limit = COST_OF_PASSWORD + ROOM_FOR_LOAD + more
-        yield coming("api reloadxml", document=Document({}, journal_limit=limit)).bodies(), [answer]
-        said = coming(watched, job, document=Document({}, journal_limit=limit + begun))
+        yield loaded("api reloadxml", document=Document({}, journal_limit=limit)).bodies(), [answer]
+        said = loaded(watched, job, document=Document({}, journal_limit=limit + begun))
         yield [event.partition("\n\n")[2] for event in events(said)], [answer]
     longest = "api reloadxml ".ljust(65534, "x")
-    said = coming(longest, document=Document({}, journal_limit=COST_OF_PASSWORD + ROOM_FOR_LOAD))
+    said = loaded(longest, document=Document({}, journal_limit=COST_OF_PASSWORD + ROOM_FOR_LOAD))
     yield (said.bodies(), said.ended()), ([RELOADED], (0, ""))
 
 
@@ -1972,7 +1977,7 @@ COST_OF_PASSWORD = 64 * 4 + len("auth ClueCon\n\n")
 ROOM_FOR_LOAD = 64 + 65536 + 64 + 1048577
 
 
-@row("globals of the document come back, over those that are there", COMING_ROWS)
+@row("globals of the document come back, over those that are there")
 def globals_come_back():
     document = Document({}, global_values={"a": "1", "b": "2", "c": "3"})
     lines = ("global_setvar b=x", "global_setvar c=", "global_setvar d=4", "reloadxml", "global_getvar")
@@ -1983,7 +1988,7 @@ def globals_come_back():
     yield said.bodies()[3:], [RELOADED, "a=1\nb=x\nd=4\ne=5\n"]
 
 
-@row("globals of the document may pass a limit, and then nothing changes", COMING_ROWS)
+@row("globals of the document may pass a limit, and then nothing changes")
 def globals_past_limit():
     names = {f"n{count}": "1" for count in range(1023)}
     two_more = Document(other_document().contexts, global_values={"y": "1", "z": "1"})
@@ -2004,7 +2009,7 @@ def globals_past_limit():
     yield reloaded("api reloadxml", document=documents[0], loads=documents[1:]).bodies(), [RELOADED]
 
 
-@row("what a channel has to run stays, and where it is routed to next is new", COMING_ROWS)
+@row("what a channel has to run stays, and where it is routed to next is new")
 def running_stays():
     texts = (("answer; sleep 1000; transfer 2", "park"), ("hangup", "hangup USER_BUSY"))
     waits, busy = (
@@ -2016,7 +2021,7 @@ def running_stays():
     yield said.session.hangups, {"USER_BUSY": 2}
 
 
-@row("settings stay", COMING_ROWS)
+@row("settings stay")
 def settings_stay():
     smaller = Document(usual_document().contexts, slots=2, journal_limit=1048576, password="other")
     lines = ("api reloadxml", *[call("ans")] * 17, "auth other", "api reloadxml")
@@ -2025,27 +2030,22 @@ def settings_stay():
     yield said.bodies(), [RELOADED, *began, "-ERR SWITCH_CONGESTION\n", RELOADED]
 
 
-@row("jobs that load", COMING_ROWS)
+@row("jobs that load")
 def jobs_that_load():
     loads = [document_load(usual_document()), refused_load("<document", "Truncated at 9")]
     jobs = ("bgapi reloadxml\nJob-UUID: q", "bgapi reloadxml")
-    said = coming("event plain BACKGROUND_JOB", *jobs, loads=loads)
+    said = loaded("event plain BACKGROUND_JOB", *jobs, loads=loads)
     told = "Job-UUID: (.*)\nJob-Command: reloadxml\n.*\n\n(.*)"
     yield [re.search(told, event).groups() for event in events(said)], [
         ("q", "+OK [Success]"),
         (FIRST, "-ERR Truncated at 9"),
     ]
     sleeps = ["bgapi msleep 5000"] * 1023
-    said = coming("event plain BACKGROUND_JOB", *sleeps, "bgapi reloadxml", "bgapi msleep 1", "api reloadxml")
+    said = loaded("event plain BACKGROUND_JOB", *sleeps, "bgapi reloadxml", "bgapi msleep 1", "api reloadxml")
     yield [event.partition("\n\n")[2] for event in events(said)], [RELOADED]
     yield said.bodies(), ["-ERR too many jobs\n"]
-    full = coming("bgapi msleep 1000", "api reloadxml", document=Document({}, journal_limit=1048576))
+    full = loaded("bgapi msleep 1000", "api reloadxml", document=Document({}, journal_limit=1048576))
     yield full.bodies(), ["-ERR journal limit\n"]
-
-
-@row("the model of today reads no file again", COMING_ROWS)
-def no_reload_yet():
-    yield answers("reloadxml"), ["-ERR reloadxml Command not found!\n"]
 
 
 def main():

@@ -12,6 +12,7 @@ import traceback
 import controllers
 import crowds
 import endings
+import reloads
 import rudeness
 import times
 from answers import at_once, talks
@@ -55,6 +56,8 @@ CHECKS = {
     "controlled": controllers.controlled,
     "held": controllers.held,
     "dialing": controllers.dialing,
+    "whole": reloads.whole,
+    "gone": reloads.gone,
 }
 
 

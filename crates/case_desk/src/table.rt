@@ -15,6 +15,7 @@ pub struct Table {
     front: Vec<u8>,
     back: Vec<u8>,
     file: Vec<u8>,
+    later: Vec<Txt>,
     input: Vec<u8>,
     cuts: Vec<usize>,
     failed_loads: Vec<u64>,
@@ -30,6 +31,7 @@ impl Drop for Table {
             front: _front,
             back: _back,
             file: _file,
+            later: _later,
             input: _input,
             cuts: _cuts,
             failed_loads: _failed_loads,
@@ -47,6 +49,7 @@ impl Table {
             front: Vec::new(alloc),
             back: Vec::new(alloc),
             file: Vec::new(alloc),
+            later: Vec::new(alloc),
             input: Vec::new(alloc),
             cuts: Vec::new(alloc),
             failed_loads: Vec::new(alloc),
@@ -59,13 +62,14 @@ impl Table {
     /// Takes what a line lays out, and says whether it lays out something.
     ///
     /// `file TEXT` is the document `f`, to which `more TEXT` and `times COUNT TEXT` add, and `between TEXT` is one that
-    /// stands between a `front TEXT` and a `back TEXT`. `input TEXT`, `inputs COUNT TEXT` and `command TEXT` add to
-    /// what the link gives, the last one with the empty line that ends a command, and `again COUNT PLACE` repeats so
-    /// often what stands from a place on. `cuts`, `failed-loads`, `large-builds`, `failed-reads` and `failed-writes`
-    /// have numbers.
+    /// stands between a `front TEXT` and a `back TEXT`. `later TEXT` is what `f` has when it is loaded the next time.
+    /// `input TEXT`, `inputs COUNT TEXT` and `command TEXT` add to what the link gives, the last one with the empty line
+    /// that ends a command, and `again COUNT PLACE` repeats so often what stands from a place on. `cuts`,
+    /// `failed-loads`, `large-builds`, `failed-reads` and `failed-writes` have numbers.
     pub fn takes(&mut self, verb: &str, rest: &str, answer: &mut Answer) -> bool {
         match verb {
             "command" => self.take_command(rest, answer),
+            "later" => self.take_later(rest, answer),
             "more" => answer.add_bytes(rest, &mut self.file),
             "times" => answer.add_counted(rest, &mut self.file),
             "input" => answer.add_bytes(rest, &mut self.input),
@@ -118,6 +122,20 @@ impl Table {
         }
     }
 
+    // Has the file give this when it is loaded the next time.
+    fn take_later(&mut self, text: &str, answer: &mut Answer) {
+        let bytes = answer.bytes_of(text);
+        let made = Txt::from_vec(bytes);
+        if let Some(text) = answer.made(made) {
+            let done = self.add_later(text);
+            answer.note(done);
+        }
+    }
+
+    fn add_later(&mut self, text: Txt) -> Result<(), Memory> {
+        Ok(self.later.push(text)?)
+    }
+
     // Has the link give a command, with the empty line that ends it.
     fn take_command(&mut self, text: &str, answer: &mut Answer) {
         answer.add_bytes(text, &mut self.input);
@@ -143,6 +161,7 @@ impl Table {
 
     /// Forgets all but the file, its front and its back.
     pub fn clear(&mut self) {
+        self.later.clear();
         self.input.clear();
         self.cuts.clear();
         self.failed_loads.clear();
@@ -171,11 +190,32 @@ impl Table {
         self.files_of(self.file.get(..len).unwrap_or(&self.file))
     }
 
-    // Files among which is `f` with these bytes.
+    /// Files among which is `f` as it is behind its first load, and its name. Where nothing else was laid out for that,
+    /// it has the same document again.
+    pub fn files_again(&self) -> Result<(MemFiles, Txt), Memory> {
+        let mut held = Vec::new(self.alloc);
+        if self.later.is_empty() {
+            self.hold(&self.file, &mut held)?;
+        }
+        self.hold_later(&mut held)?;
+        let files = MemFiles::new(self.alloc, &held, &self.failed_loads, &self.large_builds)?;
+        Ok((files, Txt::of(self.alloc, b"f")?))
+    }
+
+    // Files among which is `f` with these bytes, and then with those that were laid out for later loads.
     fn files_of(&self, bytes: &[u8]) -> Result<MemFiles, Memory> {
         let mut held = Vec::new(self.alloc);
         self.hold(bytes, &mut held)?;
+        self.hold_later(&mut held)?;
         MemFiles::new(self.alloc, &held, &self.failed_loads, &self.large_builds)
+    }
+
+    // Adds the documents of later loads.
+    fn hold_later(&self, held: &mut Vec<(Txt, Txt)>) -> Result<(), Memory> {
+        for text in &self.later {
+            self.hold(text.as_bytes(), held)?;
+        }
+        Ok(())
     }
 
     // Adds the document of these bytes.

@@ -75,6 +75,7 @@ fn tell_command(api: &Api, answer: &mut Answer) {
             answer.line("Hupall");
             tell_cause(*cause, answer);
         }
+        Api::Reloadxml => answer.line("Reloadxml"),
         Api::Shutdown => answer.line("Shutdown"),
         Api::Originate {
             url,

@@ -113,7 +113,7 @@ fn hunt(plan: &Dialplan, rest: &str, answer: &mut Answer) -> Result<Hunt, Refuse
         profile: &profile,
         globals: &globals,
     };
-    plan.hunt(alloc, &scope, &context, &mut NoGate)
+    plan.hunt(alloc, &scope, &context, 0, &mut NoGate)
 }
 
 // Who calls a number.

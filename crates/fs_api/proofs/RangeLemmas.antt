@@ -119,6 +119,7 @@ named_in_range name arguments =
     (λ _. either IsInRange (bytes_eq name (codes "hupall")) _ _ (λ _. hanging_in_range arguments)
     (λ _. either IsInRange (bytes_eq name (codes "msleep")) _ _ (λ _. sleeping_in_range (read_u64 (word_of arguments)))
     (λ _. either IsInRange (bytes_eq name (codes "originate")) _ _ (λ _. originate_in_range arguments)
+    (λ _. either IsInRange (bytes_eq name (codes "reloadxml")) _ _ (λ _. tt)
     (λ _. either IsInRange (bytes_eq name (codes "uuid_bridge")) _ _
     (λ _. needs_in_range which.UuidBridge uuid_bridge_of arguments joining_in_range)
     (λ _. either IsInRange (bytes_eq name (codes "uuid_dump")) _ _ (λ _. needs_in_range which.UuidDump uuid_dump_of arguments (λ _. tt))
@@ -131,7 +132,7 @@ named_in_range name arguments =
     (λ _. either IsInRange (bytes_eq name (codes "uuid_setvar")) _ _
     (λ _. needs_in_range which.UuidSetvar uuid_setvar_of arguments setting_in_range)
     (λ _. either IsInRange (bytes_eq name (codes "uuid_transfer")) _ _ (λ _. transferring_in_range arguments)
-    (λ _. tt)))))))))))))))))
+    (λ _. tt))))))))))))))))))
 
 -- what is read of a name and its arguments, once it is read
 pub IfOk-in_range : (name arguments : Text) (result : Result Api Memory) → IfOk result (λ api. api ≡ api_named name arguments) →

@@ -8,7 +8,8 @@ use Rattle.fs_text.specs.declared.causes.Cause.TheVariants.{ManagerRequest}
 use Rattle.fs_text.specs.Texts.{Text}
 use Rattle.fs_api.specs.declared.api.Api.{Api}
 use Rattle.fs_api.specs.declared.api.Api.TheVariants.{Echo, Expand, CreateUuid, GlobalGetvar, GlobalSetvar, Msleep, UuidExists, UuidKill}
-use Rattle.fs_api.specs.declared.api.Api.TheVariants.{UuidSetvar, UuidGetvar, UuidDump, UuidBridge, UuidPark, Hupall, Shutdown, Usage, Unknown}
+use Rattle.fs_api.specs.declared.api.Api.TheVariants.{UuidSetvar, UuidGetvar, UuidDump, UuidBridge, UuidPark, Hupall, Reloadxml}
+use Rattle.fs_api.specs.declared.api.Api.TheVariants.{Shutdown, Usage, Unknown}
 use Rattle.fs_api.specs.declared.usages.Which.{Which}
 use Rattle.fs_api.specs.declared.usages.Which.TheVariants as which
 use Rattle.fs_api.specs.Originates.{originate_of}
@@ -97,6 +98,7 @@ api_named name arguments =
     else (if bytes_eq name (codes "hupall") then hupall_of arguments
     else (if bytes_eq name (codes "msleep") then msleep_of arguments
     else (if bytes_eq name (codes "originate") then originate_of arguments
+    else (if bytes_eq name (codes "reloadxml") then Reloadxml
     else (if bytes_eq name (codes "uuid_bridge") then needs which.UuidBridge uuid_bridge_of arguments
     else (if bytes_eq name (codes "uuid_dump") then needs which.UuidDump uuid_dump_of arguments
     else (if bytes_eq name (codes "uuid_exists") then needs which.UuidExists uuid_exists_of arguments
@@ -105,7 +107,7 @@ api_named name arguments =
     else (if bytes_eq name (codes "uuid_park") then needs which.UuidPark uuid_park_of arguments
     else (if bytes_eq name (codes "uuid_setvar") then needs which.UuidSetvar uuid_setvar_of arguments
     else (if bytes_eq name (codes "uuid_transfer") then uuid_transfer_of arguments
-    else Unknown name))))))))))))))))
+    else Unknown name)))))))))))))))))
 
 -- the api command that a text is
 abbrev pub api_of : Text → Api

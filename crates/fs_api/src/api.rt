@@ -74,6 +74,8 @@ pub enum Api {
     Hupall {
         cause: Cause,
     },
+    /// The dialplan is to be loaded anew.
+    Reloadxml,
     /// The switch is to come to its end.
     Shutdown,
     /// Legs are to be made, and the one that wins is to do something.
@@ -131,6 +133,7 @@ impl Drop for Api {
             } => {}
             Api::UuidDump { uuid: _uuid } => {}
             Api::Hupall { cause: _ } => {}
+            Api::Reloadxml => {}
             Api::Shutdown => {}
             Api::Originate {
                 url: _url,

@@ -79,6 +79,8 @@ fn named(alloc: Global, name: &[u8], arguments: &[u8]) -> Result<Api, Memory>
         Ok(msleep_of(arguments))
     } else if name == b"originate".as_slice() {
         originate_of(alloc, arguments)
+    } else if name == b"reloadxml".as_slice() {
+        Ok(Api::Reloadxml)
     } else if name == b"uuid_bridge".as_slice() {
         uuid_bridge_of(alloc, arguments)
     } else if name == b"uuid_dump".as_slice() {

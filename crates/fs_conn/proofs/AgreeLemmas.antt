@@ -11,7 +11,7 @@ use Rattle.fs_state.specs.Switch.{Switch, empty, waiting_for, is_full}
 use Rattle.fs_machine.specs.declared.due.DueActor.{DueActor}
 use Rattle.fs_machine.specs.declared.due.DueActor.TheVariants as due
 use Rattle.fs_machine.specs.declared.entry.Act.{Act}
-use Rattle.fs_machine.specs.declared.entry.Act.TheVariants.{Arrive, Command, Take, Close, Dialed, Work, Job}
+use Rattle.fs_machine.specs.declared.entry.Act.TheVariants.{Arrive, Command, Take, Close, Dialed, Work, Job, Loaded}
 use Rattle.fs_machine.specs.declared.entry.Closing.TheVariants.{EndOfInput, Sent}
 use Rattle.fs_machine.specs.declared.refusal.Refusal.TheVariants as refusal
 use Rattle.fs_machine.specs.Connections.{phase_at}
@@ -21,18 +21,20 @@ use Rattle.fs_machine.proofs.OrderLemmas.{not_refused}
 use Rattle.fs_machine.proofs.FramesLaws.{closed_waits_not}
 use Rattle.fs_machine.proofs.HereLemmas.{arrival_accepted}
 use Rattle.fs_conn.specs.Play.{Play, switch_of, new_play, is_over, with_end, by_refusal, by_room, repeated, next_actor, with_runaway_end}
+use Rattle.fs_conn.specs.Play.{next_note, after_loading_as}
 use Rattle.fs_conn.specs.Play.{waits, reads_on, takes_commands, farewell, end_behind, after_trying_act_as, after_due_work_as}
 use Rattle.fs_conn.specs.Play.{after_due_step_as, after_settling_as, after_waiting_until_as, after_waiting_once_as, after_waiting_as}
 use Rattle.fs_conn.specs.Play.{after_taking_all_as, after_following_as, after_act_as, after_command_as, after_commands_as, after_opening_as}
 use Rattle.fs_conn.specs.Play.{after_input_end_as, after_closing_as, after_conversing_as, played_as, after_trying_act, after_due_step}
 use Rattle.fs_conn.specs.Play.{after_settling, after_waiting, after_waiting_once, after_taking_all, after_following, after_act}
 use Rattle.fs_conn.specs.Play.{after_command, after_commands, after_opening, after_input_end, after_closing, after_conversing, played}
-use Rattle.fs_conn.specs.Steps.{act_of, entry_of}
-use Rattle.fs_conn.proofs.PlayLemmas.{goes_entered}
+use Rattle.fs_conn.specs.Steps.{entry_of}
+use Rattle.fs_conn.proofs.PlayLemmas.{goes_entered, loaded_in, act_in}
 use Rattle.fs_conn.proofs.KeepLemmas.{kept_settled, kept_waited, kept_opened, kept_commanded, kept_worked_once, kept_waited_once}
 use Rattle.fs_conn.proofs.LawLemmas.{Any, IsRun, each_run, keeps_run}
 use Rattle.fs_conn.proofs.DrainLemmas.{run_of, switch_is, waits_in, taken_rest, run_begun, run_conversed}
 use Rattle.fs_conn.proofs.CloseLemmas.{IsFit, filled, longer_by, fit_entered, fit_due, fit_end, fit_last}
+use Rattle.fs_machine.specs.declared.note.LoadNote.{LoadNote}
 
 -- an act that the machine does not refuse comes to the same
 fit_agrees : (act : Act) (p : Play) → (is_over p ≡ false → IsFit act p) → after_trying_act act p ≡ after_trying_act_as by_room act p
@@ -55,10 +57,19 @@ worked_agrees : (config : Configuration) → IsWithin config → (p : Play) → 
     after_due_step p ≡ after_due_step_as by_room p
 worked_agrees config within p run = by (next_actor p) refl
   where
+    loaded : (number : ℕ) (note : Option LoadNote) → next_note p ≡ note → next_actor p ≡ due.Load number →
+        after_loading_as by_refusal number note p ≡ after_loading_as by_room number note p
+    loaded number None at is = refl
+    loaded number (Some note) at is =
+        fit_agrees (Loaded number note) p
+        (λ goes_on. fit_due config (Loaded number note) p within run (ap (act_in p) is ∙ ap (loaded_in number) at))
+
     by : (who : DueActor) → next_actor p ≡ who → after_due_work_as by_refusal who p ≡ after_due_work_as by_room who p
-    by (due.Slot slot) is = fit_agrees (Work slot) p (λ goes_on. fit_due config (Work slot) p within run (ap act_of is))
-    by (due.Dial slot) is = fit_agrees (Dialed slot false) p (λ goes_on. fit_due config (Dialed slot false) p within run (ap act_of is))
-    by (due.Job number) is = fit_agrees (Job number) p (λ goes_on. fit_due config (Job number) p within run (ap act_of is))
+    by (due.Slot slot) is = fit_agrees (Work slot) p (λ goes_on. fit_due config (Work slot) p within run (ap (act_in p) is))
+    by (due.Dial slot) is =
+        fit_agrees (Dialed slot false) p (λ goes_on. fit_due config (Dialed slot false) p within run (ap (act_in p) is))
+    by (due.Job number) is = fit_agrees (Job number) p (λ goes_on. fit_due config (Job number) p within run (ap (act_in p) is))
+    by (due.Load number) is = loaded number (next_note p) refl is
     by (due.Later moment) is = refl
     by due.Never is = refl
 
@@ -80,6 +91,7 @@ waited_once_agrees config within p run = ap (λ q. cond (waits p) q p) (by (next
     by (due.Slot slot) = refl
     by (due.Dial slot) = refl
     by (due.Job number) = refl
+    by (due.Load number) = refl
     by due.Never = refl
 
 all_waited_agrees : (config : Configuration) → IsWithin config → (n : ℕ) (p : Play) → IsRun config p →
@@ -212,17 +224,18 @@ all_commanded_agrees config within p (block ∷ blocks) run =
     all_commanded_agrees config within (after_command p block) blocks (kept_commanded Any (IsRun config) (keeps_run config) block tt p run)
     ∙ ap (λ q. after_commands_as by_room q blocks) (commanded_agrees config within p block run)
 
-opened_agrees : (config : Configuration) → IsWithin config → after_opening config ≡ after_opening_as by_room config
-opened_agrees config within =
-    acted_agrees config within Arrive (new_play config) (run_begun config)
-    (λ goes_on. not_refused (empty config) (entry_of Arrive (new_play config)) (arrival_accepted config 0 within))
+opened_agrees : (config : Configuration) (notes : List LoadNote) → IsWithin config →
+    after_opening config notes ≡ after_opening_as by_room config notes
+opened_agrees config notes within =
+    acted_agrees config within Arrive (new_play config notes) (run_begun config notes)
+    (λ goes_on. not_refused (empty config) (entry_of Arrive (new_play config notes)) (arrival_accepted config 0 within))
 
-conversed_agrees : (config : Configuration) (input : List ℕ) → IsWithin config →
-    after_conversing config input ≡ after_conversing_as by_room config input
-conversed_agrees config input within =
-    all_commanded_agrees config within (after_opening config) (blocks_of input)
-    (kept_opened Any (IsRun config) (keeps_run config) tt config (run_begun config))
-    ∙ ap (λ q. after_commands_as by_room q (blocks_of input)) (opened_agrees config within)
+conversed_agrees : (config : Configuration) (input : List ℕ) (notes : List LoadNote) → IsWithin config →
+    after_conversing config input notes ≡ after_conversing_as by_room config input notes
+conversed_agrees config input notes within =
+    all_commanded_agrees config within (after_opening config notes) (blocks_of input)
+    (kept_opened Any (IsRun config) (keeps_run config) tt config notes (run_begun config notes))
+    ∙ ap (λ q. after_commands_as by_room q (blocks_of input)) (opened_agrees config notes within)
 
 input_ended_agrees : (config : Configuration) → IsWithin config → (p : Play) → IsRun config p →
     after_input_end p ≡ after_input_end_as by_room p
@@ -236,19 +249,19 @@ input_ended_agrees config within p run = by (reads_on p) refl
         ∙ ap (after_taking_all_as by_room) (fit_agrees (Close 1 EndOfInput) p (λ goes_on. fit_end p reading))
     by false reading = refl
 
-closed_agrees : (config : Configuration) (input : List ℕ) → IsWithin config →
-    after_closing (after_conversing config input) ≡ after_closing_as by_room (after_conversing config input)
-closed_agrees config input within =
-    fit_agrees (Close 1 Sent) (after_input_end (after_conversing config input)) (fit_last config input within)
+closed_agrees : (config : Configuration) (input : List ℕ) (notes : List LoadNote) → IsWithin config →
+    after_closing (after_conversing config input notes) ≡ after_closing_as by_room (after_conversing config input notes)
+closed_agrees config input notes within =
+    fit_agrees (Close 1 Sent) (after_input_end (after_conversing config input notes)) (fit_last config input notes within)
     ∙ ap (after_trying_act_as by_room (Close 1 Sent))
-    (input_ended_agrees config within (after_conversing config input) (run_conversed config input))
+    (input_ended_agrees config within (after_conversing config input notes) (run_conversed config input notes))
 
 -- the whole play is one whose entries are judged by the room in the journal alone
-pub played_agrees : (config : Configuration) (input : List ℕ) (read_failed : Bool) → IsWithin config →
-    played config input read_failed ≡ played_as by_room config input read_failed
+pub played_agrees : (config : Configuration) (input : List ℕ) (read_failed : Bool) (notes : List LoadNote) → IsWithin config →
+    played config input read_failed notes ≡ played_as by_room config input read_failed notes
 unfolding played_as
-played_agrees config input read_failed within =
-    ap (with_end (end_behind (farewell (after_conversing config input)) (fault_of (rest_of input)) read_failed))
-    (closed_agrees config input within)
+played_agrees config input read_failed notes within =
+    ap (with_end (end_behind (farewell (after_conversing config input notes)) (fault_of (rest_of input)) read_failed))
+    (closed_agrees config input notes within)
     ∙ ap (λ p. with_end (end_behind (farewell p) (fault_of (rest_of input)) read_failed) (after_closing_as by_room p))
-    (conversed_agrees config input within)
+    (conversed_agrees config input notes within)

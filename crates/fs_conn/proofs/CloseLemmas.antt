@@ -8,40 +8,40 @@ use Rattle.fs_frame.specs.Block.{fault_of}
 use Rattle.fs_frame.specs.Blocks.{blocks_of, rest_of}
 use Rattle.fs_doc.specs.declared.settings.Settings.{Settings}
 use Rattle.fs_state.specs.declared.conn.Phase.TheVariants.{Ending}
-use Rattle.fs_state.specs.Switch.{Switch, empty, waiting_for, at_moment, is_full}
+use Rattle.fs_state.specs.Switch.{Switch, empty, waiting_for, at_moment, is_full, is_full_for_load}
 use Rattle.fs_machine.specs.declared.due.DueActor.{DueActor}
 use Rattle.fs_machine.specs.declared.due.DueActor.TheVariants as due
 use Rattle.fs_machine.specs.declared.entry.Entry.{Entry}
 use Rattle.fs_machine.specs.declared.entry.Act.{Act}
-use Rattle.fs_machine.specs.declared.entry.Act.TheVariants.{Arrive, Command, Take, Close, Dialed, Work, Job}
+use Rattle.fs_machine.specs.declared.entry.Act.TheVariants.{Arrive, Command, Take, Close, Dialed, Work, Job, Loaded}
 use Rattle.fs_machine.specs.declared.entry.Closing.TheVariants.{EndOfInput, Sent}
 use Rattle.fs_machine.specs.declared.refusal.Refusal.{Refusal}
 use Rattle.fs_machine.specs.declared.refusal.Refusal.TheVariants as refusal
-use Rattle.fs_machine.specs.Entries.{cost_of}
+use Rattle.fs_machine.specs.Entries.{cost_of, is_load}
 use Rattle.fs_machine.specs.Connections.{phase_at}
 use Rattle.fs_machine.specs.Questions.{owes}
 use Rattle.fs_machine.specs.Here.{IsHere}
 use Rattle.fs_machine.specs.Owed.{AreOwed}
-use Rattle.fs_machine.specs.Step.{step, act_done as acted_by, refused_where, refused_act, refusal_of}
+use Rattle.fs_machine.specs.Step.{step, act_done as acted_by, refused_where, refused_act, refusal_of, is_full_for}
 use Rattle.fs_machine.specs.Runs.{run_from}
 use Rattle.fs_machine.proofs.RunLemmas.{run_more}
 use Rattle.fs_machine.proofs.FrameLemmas.{some_cost, take_owes}
-use Rattle.fs_machine.proofs.OrderLemmas.{acted_cost, not_full}
+use Rattle.fs_machine.proofs.OrderLemmas.{acted_cost, not_full, room_for_load}
 use Rattle.fs_machine.proofs.FramesLaws.{settings_run}
 use Rattle.fs_machine.proofs.HereLemmas.{ClosesNone, arrival_accepted, arrival_here}
 use Rattle.fs_machine.proofs.OwedLaws as owed_laws
 use Rattle.fs_machine.proofs.LeftLemmas.{NoneLeft, run_none_left, empty_none_left}
 use Rattle.fs_machine.proofs.CloseLaws.{ending_at, end_parts, take_leaves_phase, sent_accepted}
-use Rattle.fs_machine.proofs.DueLaws.{AreKnown, run_is_known, slot_accepted, dial_accepted, job_accepted, IsDue, comes_due}
+use Rattle.fs_machine.proofs.DueLaws.{AreKnown, run_is_known, slot_accepted, dial_accepted, job_accepted, load_accepted, IsDue, comes_due}
 use Rattle.fs_conn.specs.declared.end.End.{End}
 use Rattle.fs_conn.specs.declared.end.End.TheVariants.{JournalFull, Runaway}
 use Rattle.fs_conn.specs.Play.{Play, switch_of, new_play, is_over, with_end, after_judging, after_trying_act, repeated, after_due_work}
 use Rattle.fs_conn.specs.Play.{next_actor, after_due_step, with_runaway_end_by, after_settling, after_waiting_until, after_waiting_once}
 use Rattle.fs_conn.specs.Play.{after_waiting, after_taking_all, after_act, reads_on, takes_commands, after_command, after_commands}
 use Rattle.fs_conn.specs.Play.{after_opening, after_input_end, after_conversing, after_closing, farewell, end_behind, played}
-use Rattle.fs_conn.specs.Play.{after_taking_all_as, played_as, after_settling_as, after_waiting_as}
-use Rattle.fs_conn.specs.Steps.{spent, act_of, is_early, entry_of}
-use Rattle.fs_conn.proofs.PlayLemmas.{goes_entered, goes_all_taken}
+use Rattle.fs_conn.specs.Play.{after_taking_all_as, played_as, after_settling_as, after_waiting_as, end_unnoted, next_note}
+use Rattle.fs_conn.specs.Steps.{spent, is_due, is_early, entry_of}
+use Rattle.fs_conn.proofs.PlayLemmas.{goes_entered, goes_all_taken, loaded_in, act_in, worked_due, worked_unnoted, unnoted_early}
 use Rattle.fs_conn.proofs.RoundLemmas.{repeated_none}
 use Rattle.fs_conn.proofs.KeepLemmas.{KeepsEach, kept_repeated, kept_behind, kept_settled, kept_followed, kept_opened, kept_commanded}
 use Rattle.fs_conn.proofs.KeepLemmas.{kept_all_commanded}
@@ -49,14 +49,23 @@ use Rattle.fs_conn.proofs.HereLemmas.{Here, keeps_here, Free, free_taken}
 use Rattle.fs_conn.proofs.LawLemmas.{Any, IsRun, each_run, keeps_run, EndsEarly, Early, early_closed}
 use Rattle.fs_conn.proofs.DrainLemmas.{run_of, switch_is, Drained, drained_conversed, drained_ended, run_begun, run_conversed}
 use Rattle.fs_conn.proofs.DrainLemmas.{nothing_waits}
+use Rattle.fs_machine.specs.declared.note.LoadNote.{LoadNote}
 
 -- ---- acts that nothing but a full journal speaks against
 
 -- why an entry is refused against which nothing else speaks
 pub refusal_is : (s : Switch) (entry : Entry) → refused_act entry.act (at_moment entry.moment s) ≡ None →
-    refusal_of s entry ≡ refused_where (is_full s) (refusal.JournalFull s.cost s.settings.journal_limit) None
+    refusal_of s entry ≡ refused_where (is_full_for entry.act s) (refusal.JournalFull s.cost s.settings.journal_limit) None
 unfolding refusal_of
-refusal_is s entry none = ap (refused_where (is_full s) (refusal.JournalFull s.cost s.settings.journal_limit)) none
+refusal_is s entry none = ap (refused_where (is_full_for entry.act s) (refusal.JournalFull s.cost s.settings.journal_limit)) none
+
+-- a journal that has room for a load has room for any other entry
+pub room_for : (act : Act) (s : Switch) → is_full_for act s ≡ false → is_full s ≡ false
+room_for act s room = by (is_load act) room
+  where
+    by : (load : Bool) → cond load (is_full_for_load s) (is_full s) ≡ false → is_full s ≡ false
+    by false is = is
+    by true is = room_for_load s is
 
 -- nothing speaks against an act of this play
 abbrev pub IsFit : Act → Play → Type 0
@@ -71,9 +80,11 @@ abbrev pub longer_by : Act → Play → Play
 longer_by act p = record p { journal = p.journal ++ entry_of act p ∷ [] }
 
 pub fit_judged : (act : Act) (p : Play) → IsFit act p →
-    after_judging (refusal_of (switch_of p) (entry_of act p)) (entry_of act p) p ≡ cond (is_full (switch_of p)) (filled p) (longer_by act p)
+    after_judging (refusal_of (switch_of p) (entry_of act p)) (entry_of act p) p
+    ≡ cond (is_full_for act (switch_of p)) (filled p) (longer_by act p)
 fit_judged act p fit =
-    ap (λ cause. after_judging cause (entry_of act p) p) (refusal_is (switch_of p) (entry_of act p) fit) ∙ by (is_full (switch_of p))
+    ap (λ cause. after_judging cause (entry_of act p) p) (refusal_is (switch_of p) (entry_of act p) fit)
+    ∙ by (is_full_for act (switch_of p))
   where
     by : (full : Bool) → after_judging (refused_where full
         (refusal.JournalFull (switch_of p).cost (switch_of p).settings.journal_limit) None) (entry_of act p) p
@@ -81,9 +92,9 @@ fit_judged act p fit =
     by true = refl
     by false = refl
 
--- such an act ends the play where its journal is full, and is entered otherwise
+-- such an act ends the play where its journal is full for it, and is entered otherwise
 pub fit_entered : (act : Act) (p : Play) → is_over p ≡ false → IsFit act p →
-    after_trying_act act p ≡ cond (is_full (switch_of p)) (filled p) (longer_by act p)
+    after_trying_act act p ≡ cond (is_full_for act (switch_of p)) (filled p) (longer_by act p)
 fit_entered act p goes_on fit =
     ap (λ over. cond over p (after_judging (refusal_of (switch_of p) (entry_of act p)) (entry_of act p) p)) goes_on ∙ fit_judged act p fit
 
@@ -145,6 +156,7 @@ each_spent config least small = record {
   works = λ slot. tt;
   dials = λ slot. tt;
   jobs = λ number. tt;
+  loads = λ number note. tt;
   takes = tt;
   enters = λ act such p h. record {
     run = (each_run config).enters act tt p h.run;
@@ -154,10 +166,10 @@ each_spent config least small = record {
           | false ↦ paid_judged config least act (refusal_of (switch_of p) (entry_of act p)) p small h.run refl h.paid
         ];
   };
-  runs_away = λ p h. record {
-    run = (each_run config).runs_away p h.run;
+  ends = λ end early p h. record {
+    run = (each_run config).ends end early p h.run;
     paid =
-        elim (is_over p) as (λ b. Pays least (cond b p (record p { end = Some (Runaway 100000) }))) [
+        elim (is_over p) as (λ b. Pays least (cond b p (record p { end = Some end }))) [
           | true ↦ h.paid
           | false ↦ inl refl
         ];
@@ -176,10 +188,16 @@ owed_of_run config p within run =
 
 -- nothing speaks against what has something to do
 pub fit_due : (config : Configuration) (act : Act) (p : Play) → IsWithin config → IsRun config p →
-    act_of (next_actor p) ≡ Some act → IsFit act p
+    act_in p (next_actor p) ≡ Some act → IsFit act p
 fit_due config act p within run is = by (next_actor p) refl is
   where
-    by : (who : DueActor) → next_actor p ≡ who → act_of who ≡ Some act → IsFit act p
+    loaded : (number : ℕ) (note : Option LoadNote) → next_actor p ≡ due.Load number → loaded_in number note ≡ Some act → IsFit act p
+    loaded number None at e = absurd (cc e)
+    loaded number (Some note) at e =
+        let same : Loaded number note ≡ act = cc e in
+        subst (λ a. IsFit a p) same (load_accepted (switch_of p) p.clock number note at)
+
+    by : (who : DueActor) → next_actor p ≡ who → act_in p who ≡ Some act → IsFit act p
     by (due.Slot slot) at e = let same : Work slot ≡ act = cc e in subst (λ a. IsFit a p) same (slot_accepted (switch_of p) p.clock slot at)
     by (due.Dial slot) at e =
         let same : Dialed slot false ≡ act = cc e in
@@ -187,65 +205,60 @@ fit_due config act p within run is = by (next_actor p) refl is
     by (due.Job number) at e =
         let same : Job number ≡ act = cc e in
         subst (λ a. IsFit a p) same (job_accepted (switch_of p) p.clock number (known_of config p within run) at)
+    by (due.Load number) at e = loaded number (next_note p) at e
     by (due.Later moment) at e = absurd (cc e)
     by due.Never at e = absurd (cc e)
 
 paid_entered : (config : Configuration) (act : Act) (p : Play) → config.settings.journal_limit ≤ 1073741824 → IsRun config p → IsFit act p →
     Pays (spent p + 64) (after_trying_act act p)
-paid_entered config act p small run fit = by (is_over p) refl (is_full (switch_of p)) refl
+paid_entered config act p small run fit = by (is_over p) refl (is_full_for act (switch_of p)) refl
   where
-    by : (over : Bool) → is_over p ≡ over → (full : Bool) → is_full (switch_of p) ≡ full → Pays (spent p + 64) (after_trying_act act p)
+    by : (over : Bool) → is_over p ≡ over → (full : Bool) → is_full_for act (switch_of p) ≡ full →
+        Pays (spent p + 64) (after_trying_act act p)
     by true over full at = inl (ap is_over ((goes_entered act).over p over) ∙ over)
     by false goes_on true full =
         subst (Pays (spent p + 64)) (sym (fit_entered act p goes_on fit ∙ ap (λ b. cond b (filled p) (longer_by act p)) full)) (inl refl)
     by false goes_on false below =
         subst (Pays (spent p + 64)) (sym (fit_entered act p goes_on fit ∙ ap (λ b. cond b (filled p) (longer_by act p)) below))
-        (inr (spent_longer config act p small run below))
+        (inr (spent_longer config act p small run (room_for act (switch_of p) below)))
 
--- somebody who has something to do has an act
-act_due : (who : DueActor) → IsDue who → (act : Act) × (act_of who ≡ Some act)
-act_due (due.Slot slot) is = (Work slot, refl)
-act_due (due.Dial slot) is = (Dialed slot false, refl)
-act_due (due.Job number) is = (Job number, refl)
-act_due (due.Later moment) is = absurd is
-act_due due.Never is = absurd is
-
-pub worked_due : (who : DueActor) (act : Act) (p : Play) → act_of who ≡ Some act → after_due_work who p ≡ after_trying_act act p
-worked_due (due.Slot slot) act p is = let same : Work slot ≡ act = cc is in ap (λ a. after_trying_act a p) same
-worked_due (due.Dial slot) act p is = let same : Dialed slot false ≡ act = cc is in ap (λ a. after_trying_act a p) same
-worked_due (due.Job number) act p is = let same : Job number ≡ act = cc is in ap (λ a. after_trying_act a p) same
-worked_due (due.Later moment) act p is = absurd (cc is)
-worked_due due.Never act p is = absurd (cc is)
-
--- where something is due, all that is due costs something
-spent_settled : (config : Configuration) (p : Play) → IsWithin config → IsRun config p → IsDue (next_actor p) →
-    Spent config (spent p + 64) (after_settling p)
-spent_settled config p within run is =
-    let does = act_due (next_actor p) is in
-    let first : Spent config (spent p + 64) (after_trying_act does.0 p) = record {
-      run = (keeps_run config).enters does.0 tt p run;
-      paid = paid_entered config does.0 p within.settings.journal.1 run (fit_due config does.0 p within run does.1);
-    } in
-    kept_behind Any (Spent config (spent p + 64)) (each_spent config (spent p + 64) within.settings.journal.1) p
-    (subst (Spent config (spent p + 64)) (sym (worked_due (next_actor p) does.0 p does.1)) first)
-
--- the play is over, or nothing is due
-abbrev Idle : Play → Type 0
-Idle p = (is_over p ≡ true) ⊎ (act_of (next_actor p) ≡ None)
-
-over_ended : (end : End) (p : Play) → is_over (with_end end p) ≡ true
+pub over_ended : (end : End) (p : Play) → is_over (with_end end p) ≡ true
 over_ended end p = by (is_over p) refl
   where
     by : (over : Bool) → is_over p ≡ over → is_over (cond over p (record p { end = Some end })) ≡ true
     by true over = over
     by false goes_on = refl
 
+-- where something is due, all that is due costs something
+spent_settled : (config : Configuration) (p : Play) → IsWithin config → IsRun config p → is_due (next_actor p) ≡ true →
+    Spent config (spent p + 64) (after_settling p)
+spent_settled config p within run is =
+    kept_behind Any (Spent config (spent p + 64)) (each_spent config (spent p + 64) within.settings.journal.1) p
+    (by (act_in p (next_actor p)) refl)
+  where
+    by : (does : Option Act) → act_in p (next_actor p) ≡ does → Spent config (spent p + 64) (after_due_step p)
+    by None none =
+        subst (Spent config (spent p + 64)) (sym (worked_unnoted (next_actor p) p is none)) (record {
+          run = (each_run config).ends (end_unnoted (switch_of p)) (unnoted_early (switch_of p)) p run;
+          paid = inl (over_ended (end_unnoted (switch_of p)) p);
+        })
+    by (Some act) does =
+        subst (Spent config (spent p + 64)) (sym (worked_due (next_actor p) act p does)) (record {
+          run = (keeps_run config).enters act tt p run;
+          paid = paid_entered config act p within.settings.journal.1 run (fit_due config act p within run does);
+        })
+
+-- the play is over, or nothing is due
+abbrev Idle : Play → Type 0
+Idle p = (is_over p ≡ true) ⊎ (is_due (next_actor p) ≡ false)
+
 idle_stopped : (who : DueActor) (p : Play) → next_actor p ≡ who → Idle (with_runaway_end_by who p)
 idle_stopped (due.Slot slot) p is = inl (over_ended (Runaway 100000) p)
 idle_stopped (due.Dial slot) p is = inl (over_ended (Runaway 100000) p)
 idle_stopped (due.Job number) p is = inl (over_ended (Runaway 100000) p)
-idle_stopped (due.Later moment) p is = inr (ap act_of is)
-idle_stopped due.Never p is = inr (ap act_of is)
+idle_stopped (due.Load number) p is = inl (over_ended (Runaway 100000) p)
+idle_stopped (due.Later moment) p is = inr (ap is_due is)
+idle_stopped due.Never p is = inr (ap is_due is)
 
 idle_settled : (p : Play) → Idle (after_settling p)
 unfolding after_settling_as
@@ -261,7 +274,7 @@ Rests p = (is_over p ≡ true) ⊎ Free p
 record Goes (config : Configuration) (moments : ℕ) (p : Play) : Type 0 where
   run : IsRun config p
   goes_on : is_over p ≡ false
-  idle : act_of (next_actor p) ≡ None
+  idle : is_due (next_actor p) ≡ false
   paid : 64 * moments ≤ spent p
 
 going : (config : Configuration) (moments : ℕ) (p : Play) → Spent config (64 * moments) p → Idle p →
@@ -283,6 +296,15 @@ rested p (inr free) = by (is_over p)
     by true = refl
     by false = ap (λ b. cond b (after_waiting_until (next_actor p) p) p) free
 
+-- somebody has something to do
+due_is : (who : DueActor) → IsDue who → is_due who ≡ true
+due_is (due.Slot slot) is = refl
+due_is (due.Dial slot) is = refl
+due_is (due.Job number) is = refl
+due_is (due.Load number) is = refl
+due_is (due.Later moment) is = absurd is
+due_is due.Never is = absurd is
+
 -- at the next moment something is due, which costs something
 spent_waited : (config : Configuration) (moments moment : ℕ) (p : Play) → IsWithin config →
     Goes config moments p → next_actor p ≡ due.Later moment →
@@ -290,7 +312,7 @@ spent_waited : (config : Configuration) (moments moment : ℕ) (p : Play) → Is
 spent_waited config moments moment p within goes later =
     let next =
     spent_settled config (record p { clock = moment }) within ((each_run config).goes_on moment p goes.run)
-    (comes_due (switch_of p) p.clock moment later) in
+    (due_is (next_actor (record p { clock = moment })) (comes_due (switch_of p) p.clock moment later)) in
     record { run = next.run; paid = by next.paid }
   where
     by : Pays (spent p + 64) (after_settling (record p { clock = moment })) →
@@ -308,9 +330,10 @@ once config moments p within goes = by (owes (switch_of p) 1) refl
 
     at : owes (switch_of p) 1 ≡ true → (who : DueActor) → next_actor p ≡ who →
         Rests (after_waiting_until who p) ⊎ Goes config (moments + 1) (after_waiting_until who p)
-    at owed (due.Slot slot) is = let none : act_of (due.Slot slot) ≡ None = ap act_of (sym is) ∙ goes.idle in absurd (cc none)
-    at owed (due.Dial slot) is = let none : act_of (due.Dial slot) ≡ None = ap act_of (sym is) ∙ goes.idle in absurd (cc none)
-    at owed (due.Job number) is = let none : act_of (due.Job number) ≡ None = ap act_of (sym is) ∙ goes.idle in absurd (cc none)
+    at owed (due.Slot slot) is = let none : is_due (due.Slot slot) ≡ false = ap is_due (sym is) ∙ goes.idle in absurd (cc none)
+    at owed (due.Dial slot) is = let none : is_due (due.Dial slot) ≡ false = ap is_due (sym is) ∙ goes.idle in absurd (cc none)
+    at owed (due.Job number) is = let none : is_due (due.Job number) ≡ false = ap is_due (sym is) ∙ goes.idle in absurd (cc none)
+    at owed (due.Load number) is = let none : is_due (due.Load number) ≡ false = ap is_due (sym is) ∙ goes.idle in absurd (cc none)
     at owed (due.Later moment) is =
         later (after_settling (record p { clock = moment }))
         (going config (moments + 1) (after_settling (record p { clock = moment })) (spent_waited config moments moment p within goes is)
@@ -402,27 +425,28 @@ rests_all_commanded config (block ∷ blocks) p within run rests =
     rests_all_commanded config blocks (after_command p block) within (kept_commanded Any (IsRun config) (keeps_run config) block tt p run)
     (rests_commanded config block p within run rests)
 
-pub rests_conversed : (config : Configuration) (input : List ℕ) → IsWithin config →
-    Rests (after_conversing config input)
-rests_conversed config input within =
-    rests_all_commanded config (blocks_of input) (after_opening config) within
-    (kept_opened Any (IsRun config) (keeps_run config) tt config (run_begun config))
-    (rests_acted config Arrive (new_play config) within (run_begun config))
+pub rests_conversed : (config : Configuration) (input : List ℕ) (notes : List LoadNote) → IsWithin config →
+    Rests (after_conversing config input notes)
+rests_conversed config input notes within =
+    rests_all_commanded config (blocks_of input) (after_opening config notes) within
+    (kept_opened Any (IsRun config) (keeps_run config) tt config notes (run_begun config notes))
+    (rests_acted config Arrive (new_play config notes) within (run_begun config notes))
 
 -- it may come, and then it is there
-pub fit_arrival : (config : Configuration) → IsWithin config →
-    after_trying_act Arrive (new_play config) ≡ longer_by Arrive (new_play config)
-fit_arrival config within =
-    ap (λ cause. after_judging cause (entry_of Arrive (new_play config)) (new_play config)) (arrival_accepted config 0 within)
+pub fit_arrival : (config : Configuration) (notes : List LoadNote) → IsWithin config →
+    after_trying_act Arrive (new_play config notes) ≡ longer_by Arrive (new_play config notes)
+fit_arrival config notes within =
+    ap (λ cause. after_judging cause (entry_of Arrive (new_play config notes)) (new_play config notes)) (arrival_accepted config 0 within)
 
-here_first : (config : Configuration) → IsWithin config → Here (after_trying_act Arrive (new_play config))
-here_first config within goes_on =
-    subst (λ (p : Play). IsHere 1 (switch_of p)) (sym (fit_arrival config within)) (arrival_here config 0 within)
+here_first : (config : Configuration) (notes : List LoadNote) → IsWithin config → Here (after_trying_act Arrive (new_play config notes))
+here_first config notes within goes_on =
+    subst (λ (p : Play). IsHere 1 (switch_of p)) (sym (fit_arrival config notes within)) (arrival_here config 0 within)
 
-pub here_conversed : (config : Configuration) (input : List ℕ) → IsWithin config → Here (after_conversing config input)
-here_conversed config input within =
-    kept_all_commanded ClosesNone Here keeps_here (λ block. tt) (blocks_of input) (after_opening config)
-    (kept_followed ClosesNone Here keeps_here (after_trying_act Arrive (new_play config)) (here_first config within))
+pub here_conversed : (config : Configuration) (input : List ℕ) (notes : List LoadNote) → IsWithin config →
+    Here (after_conversing config input notes)
+here_conversed config input notes within =
+    kept_all_commanded ClosesNone Here keeps_here (λ block. tt) (blocks_of input) (after_opening config notes)
+    (kept_followed ClosesNone Here keeps_here (after_trying_act Arrive (new_play config notes)) (here_first config notes within))
 
 -- ---- the end of the input
 
@@ -523,12 +547,12 @@ fit_closing config p within run here rests drained goes_on = by (parts_ended con
         fit_sent (after_input_end p) h
         (nothing_waits (after_input_end p) (drained_ended config p within.settings.journal.1 run drained) goes_on)
 
-pub fit_last : (config : Configuration) (input : List ℕ) → IsWithin config →
-    is_over (after_input_end (after_conversing config input)) ≡ false →
-    IsFit (Close 1 Sent) (after_input_end (after_conversing config input))
-fit_last config input within goes_on =
-    fit_closing config (after_conversing config input) within (run_conversed config input) (here_conversed config input within)
-    (rests_conversed config input within) (drained_conversed config input within.settings.journal.1) goes_on
+pub fit_last : (config : Configuration) (input : List ℕ) (notes : List LoadNote) → IsWithin config →
+    is_over (after_input_end (after_conversing config input notes)) ≡ false →
+    IsFit (Close 1 Sent) (after_input_end (after_conversing config input notes))
+fit_last config input notes within goes_on =
+    fit_closing config (after_conversing config input notes) within (run_conversed config input notes) (here_conversed config input notes within)
+    (rests_conversed config input notes within) (drained_conversed config input notes within.settings.journal.1) goes_on
 
 -- the journal ends with the Close as Sent of the connection
 abbrev pub EndsSent : Play → Type 0
@@ -559,11 +583,11 @@ sent_concluded how end p sent early is not_early = by (is_over p) refl is
     by false goes_on e = sent goes_on
 
 -- a play that ends with its connection closes it
-pub sent_played : (config : Configuration) (input : List ℕ) (read_failed : Bool) (end : End) → IsWithin config →
-    (played config input read_failed).end ≡ Some end → is_early end ≡ false →
-    EndsSent (played config input read_failed)
+pub sent_played : (config : Configuration) (input : List ℕ) (read_failed : Bool) (notes : List LoadNote) (end : End) → IsWithin config →
+    (played config input read_failed notes).end ≡ Some end → is_early end ≡ false →
+    EndsSent (played config input read_failed notes)
 unfolding played_as
-sent_played config input read_failed end within is not_early =
-    sent_concluded (end_behind (farewell (after_conversing config input)) (fault_of (rest_of input)) read_failed) end
-    (after_closing (after_conversing config input))
-    (sent_entered (after_input_end (after_conversing config input)) (fit_last config input within)) (early_closed config input) is not_early
+sent_played config input read_failed notes end within is not_early =
+    sent_concluded (end_behind (farewell (after_conversing config input notes)) (fault_of (rest_of input)) read_failed) end
+    (after_closing (after_conversing config input notes))
+    (sent_entered (after_input_end (after_conversing config input notes)) (fit_last config input notes within)) (early_closed config input notes) is not_early

@@ -1,5 +1,6 @@
 -- The commands of a play are the first blocks of its input, and all of them where it ends by its input.
-use Rattle.std.proofs.Common.{◌≡◌, ℕ, Bool, true, false, cond, not, ◌&&◌, List, [], ◌∷◌, ◌++◌, Option, None, Some, ◌⊎◌, inl, inr, refl, sym, ap}
+use Rattle.std.proofs.Common.{◌≡◌, ℕ, Bool, true, false, cond, not, ◌&&◌, List, [], ◌∷◌, ◌++◌, Option, None, Some, ◌⊎◌, inl, inr, refl, sym}
+use Rattle.std.proofs.Common.{ap}
 use Rattle.std.proofs.Common.{◌∙◌, subst, append_assoc, append-nil}
 use Rattle.std.proofs.lemmas.Bool.{both_ways}
 use Rattle.std.proofs.lemmas.Option.{same_Some}
@@ -21,7 +22,8 @@ use Rattle.fs_machine.specs.Step.{refusal_of, refused_where}
 use Rattle.fs_machine.specs.Frames.{command_in, commands_of}
 use Rattle.fs_machine.proofs.FrameLemmas.{command_refused}
 use Rattle.fs_conn.specs.declared.end.End.{End}
-use Rattle.fs_conn.specs.declared.end.End.TheVariants.{Exit, AuthRefused, Stopped, Eof, ReadFault, WriteFault, TooLong, BadLength, JournalFull}
+use Rattle.fs_conn.specs.declared.end.End.TheVariants.{Exit, AuthRefused, Stopped, Eof, ReadFault, WriteFault, TooLong, BadLength}
+use Rattle.fs_conn.specs.declared.end.End.TheVariants.{JournalFull}
 use Rattle.fs_conn.specs.declared.end.End.TheVariants.{Memory, Runaway}
 use Rattle.fs_conn.specs.Play.{Play, switch_of, is_over, with_end, after_judging, after_trying_act, after_following, after_act, reads_on}
 use Rattle.fs_conn.specs.Play.{takes_commands, after_command, after_commands, after_opening, after_conversing, after_closing, end_by}
@@ -34,6 +36,7 @@ use Rattle.fs_conn.proofs.KeepLemmas.{Keeps, by_each, kept_followed, kept_opened
 use Rattle.fs_conn.proofs.LawLemmas.{EndsEarly, Early, early_closed}
 use Rattle.fs_conn.proofs.DrainLemmas.{run_conversed}
 use Rattle.fs_conn.proofs.CloseLemmas.{owed_of_run, Rests, rests_conversed, here_conversed}
+use Rattle.fs_machine.specs.declared.note.LoadNote.{LoadNote}
 
 -- ---- what a play enters
 
@@ -73,6 +76,7 @@ keeps_says blocks = by_each IsSilent (Says blocks) (record {
   works = λ slot. refl;
   dials = λ slot. refl;
   jobs = λ number. refl;
+  loads = λ number note. refl;
   takes = refl;
   enters =
       λ act such p h. elim (is_over p) as (λ b. Says blocks
@@ -80,7 +84,7 @@ keeps_says blocks = by_each IsSilent (Says blocks) (record {
         | true ↦ h
         | false ↦ says_judged blocks (refusal_of (switch_of p) (entry_of act p)) (entry_of act p) p such h
       ];
-  runs_away = λ p h. elim (is_over p) as (λ b. Says blocks (cond b p (record p { end = Some (Runaway 100000) }))) [ true ↦ h | false ↦ h ];
+  ends = λ end early p h. elim (is_over p) as (λ b. Says blocks (cond b p (record p { end = Some end }))) [ true ↦ h | false ↦ h ];
   goes_on = λ moment p h. h;
 })
 
@@ -184,25 +188,25 @@ says_ended : (blocks : List (List ℕ)) (end : End) (p : Play) → Says blocks p
 says_ended blocks end p h = elim (is_over p) as (λ b. Says blocks (cond b p (record p { end = Some end }))) [ true ↦ h | false ↦ h ]
 
 -- what follows its last command adds none
-commands_kept : (config : Configuration) (input : List ℕ) (read_failed : Bool) →
-    commands (played config input read_failed) ≡ commands (after_conversing config input)
+commands_kept : (config : Configuration) (input : List ℕ) (read_failed : Bool) (notes : List LoadNote) →
+    commands (played config input read_failed notes) ≡ commands (after_conversing config input notes)
 unfolding played_as
-commands_kept config input read_failed =
-    let last = after_conversing config input in
+commands_kept config input read_failed notes =
+    let last = after_conversing config input notes in
     says_ended (commands last) (end_behind (farewell last) (fault_of (rest_of input)) read_failed) (after_closing last)
     (kept_closed IsSilent (Says (commands last)) (keeps_says (commands last)) refl refl last refl)
 
 -- its coming is none
-opened_none : (config : Configuration) → commands (after_opening config) ≡ []
-opened_none config = kept_opened IsSilent (Says []) (keeps_says []) refl config refl
+opened_none : (config : Configuration) (notes : List LoadNote) → commands (after_opening config notes) ≡ []
+opened_none config notes = kept_opened IsSilent (Says []) (keeps_says []) refl config notes refl
 
-pub commands_played : (config : Configuration) (input : List ℕ) (read_failed : Bool) →
-    (more : List (List ℕ)) × (blocks_of input ≡ commands_of 1 (played config input read_failed).journal ++ more)
-commands_played config input read_failed =
-    let all = commands_all (after_opening config) (blocks_of input) in (
+pub commands_played : (config : Configuration) (input : List ℕ) (read_failed : Bool) (notes : List LoadNote) →
+    (more : List (List ℕ)) × (blocks_of input ≡ commands_of 1 (played config input read_failed notes).journal ++ more)
+commands_played config input read_failed notes =
+    let all = commands_all (after_opening config notes) (blocks_of input) in (
       all.0,
-      ap (λ blocks. blocks ++ blocks_of input) (sym (opened_none config)) ∙ all.1
-          ∙ ap (λ blocks. blocks ++ all.0) (sym (commands_kept config input read_failed)),
+      ap (λ blocks. blocks ++ blocks_of input) (sym (opened_none config notes)) ∙ all.1
+          ∙ ap (λ blocks. blocks ++ all.0) (sym (commands_kept config input read_failed notes)),
     )
 
 -- ---- an end by the input
@@ -217,7 +221,7 @@ input_late AuthRefused is = refl
 input_late Stopped is = refl
 input_late WriteFault is = refl
 input_late (JournalFull cost limit) is = absurd (cc)
-input_late Memory is = refl
+input_late Memory is = absurd (cc)
 input_late (Runaway count) is = absurd (cc)
 
 -- it says no farewell
@@ -239,14 +243,14 @@ ended_with how end p early is late = by (is_over p) refl is
     by true over e = absurd (both_ways (is_early end) late (subst EndsEarly e early))
     by false goes_on e = (goes_on, same_Some how end e)
 
-ended_behind : (config : Configuration) (input : List ℕ) (read_failed : Bool) (end : End) →
-    (played config input read_failed).end ≡ Some end → is_early end ≡ false →
-    (is_over (after_closing (after_conversing config input)) ≡ false)
-    × (end_behind (farewell (after_conversing config input)) (fault_of (rest_of input)) read_failed ≡ end)
+ended_behind : (config : Configuration) (input : List ℕ) (read_failed : Bool) (notes : List LoadNote) (end : End) →
+    (played config input read_failed notes).end ≡ Some end → is_early end ≡ false →
+    (is_over (after_closing (after_conversing config input notes)) ≡ false)
+    × (end_behind (farewell (after_conversing config input notes)) (fault_of (rest_of input)) read_failed ≡ end)
 unfolding played_as
-ended_behind config input read_failed end is late =
-    ended_with (end_behind (farewell (after_conversing config input)) (fault_of (rest_of input)) read_failed) end
-    (after_closing (after_conversing config input)) (early_closed config input) is late
+ended_behind config input read_failed notes end is late =
+    ended_with (end_behind (farewell (after_conversing config input notes)) (fault_of (rest_of input)) read_failed) end
+    (after_closing (after_conversing config input notes)) (early_closed config input notes) is late
 
 -- one that is not over was not before it was closed
 still_open : (p : Play) → is_over (after_closing p) ≡ false → is_over p ≡ false
@@ -257,30 +261,31 @@ still_open p goes_on = by (is_over p) refl
     by false over = refl
 
 -- it takes further commands
-takes_further : (config : Configuration) (input : List ℕ) → IsWithin config → is_over (after_conversing config input) ≡ false →
-    farewell (after_conversing config input) ≡ None → takes_commands (after_conversing config input) ≡ true
-takes_further config input within goes_on none = by (rests_conversed config input within)
+takes_further : (config : Configuration) (input : List ℕ) (notes : List LoadNote) → IsWithin config →
+    is_over (after_conversing config input notes) ≡ false →
+    farewell (after_conversing config input notes) ≡ None → takes_commands (after_conversing config input notes) ≡ true
+takes_further config input notes within goes_on none = by (rests_conversed config input notes within)
   where
-    reading : reads_on (after_conversing config input) ≡ true
+    reading : reads_on (after_conversing config input notes) ≡ true
     reading =
-        reads_still (switch_of (after_conversing config input))
-        (owed_of_run config (after_conversing config input) within (run_conversed config input))
-        (here_conversed config input within goes_on) none
+        reads_still (switch_of (after_conversing config input notes))
+        (owed_of_run config (after_conversing config input notes) within (run_conversed config input notes))
+        (here_conversed config input notes within goes_on) none
 
-    by : Rests (after_conversing config input) → takes_commands (after_conversing config input) ≡ true
-    by (inl over) = absurd (both_ways (is_over (after_conversing config input)) goes_on over)
-    by (inr free) = ap (λ b. b && not (owes (switch_of (after_conversing config input)) 1)) reading ∙ ap not free
+    by : Rests (after_conversing config input notes) → takes_commands (after_conversing config input notes) ≡ true
+    by (inl over) = absurd (both_ways (is_over (after_conversing config input notes)) goes_on over)
+    by (inr free) = ap (λ b. b && not (owes (switch_of (after_conversing config input notes)) 1)) reading ∙ ap not free
 
 -- so all blocks are commands
-pub all_commands : (config : Configuration) (input : List ℕ) (read_failed : Bool) (end : End) → IsWithin config →
-    (played config input read_failed).end ≡ Some end → is_by_input end ≡ true →
-    commands_of 1 (played config input read_failed).journal ≡ blocks_of input
-all_commands config input read_failed end within is by_input =
-    let last = after_conversing config input in
-    let ended = ended_behind config input read_failed end is (input_late end by_input) in
+pub all_commands : (config : Configuration) (input : List ℕ) (read_failed : Bool) (notes : List LoadNote) (end : End) → IsWithin config →
+    (played config input read_failed notes).end ≡ Some end → is_by_input end ≡ true →
+    commands_of 1 (played config input read_failed notes).journal ≡ blocks_of input
+all_commands config input read_failed notes end within is by_input =
+    let last = after_conversing config input notes in
+    let ended = ended_behind config input read_failed notes end is (input_late end by_input) in
     let goes_on = still_open last ended.0 in
     let none =
     farewell_none (parting_at (switch_of last) 1) (fault_of (rest_of input)) read_failed (ap is_by_input ended.1 ∙ by_input) in
     let said =
-    all_spoken (after_opening config) (blocks_of input) goes_on (takes_further config input within goes_on none) in
-    commands_kept config input read_failed ∙ (said ∙ ap (λ blocks. blocks ++ blocks_of input) (opened_none config))
+    all_spoken (after_opening config notes) (blocks_of input) goes_on (takes_further config input notes within goes_on none) in
+    commands_kept config input read_failed notes ∙ (said ∙ ap (λ blocks. blocks ++ blocks_of input) (opened_none config notes))

@@ -31,8 +31,10 @@ use Rattle.fs_conn.specs.Play.{after_commands, after_opening, after_input_end, a
 use Rattle.fs_conn.specs.Play.{played, after_taking_all_as, played_as}
 use Rattle.fs_conn.specs.Steps.{is_early, entry_of}
 use Rattle.fs_conn.proofs.PlayLemmas.{goes_entered, goes_taken}
-use Rattle.fs_conn.proofs.KeepLemmas.{Keeps, by_each, kept_settled, kept_waited, kept_opened, kept_commanded, kept_all_commanded, kept_input_ended}
+use Rattle.fs_conn.proofs.KeepLemmas.{Keeps, by_each, kept_settled, kept_waited, kept_opened, kept_commanded, kept_all_commanded}
+use Rattle.fs_conn.proofs.KeepLemmas.{kept_input_ended}
 use Rattle.fs_conn.proofs.LawLemmas.{Any, IsRun, each_run, keeps_run, run_closed, run_played, EndsEarly, Early, early_closed}
+use Rattle.fs_machine.specs.declared.note.LoadNote.{LoadNote}
 
 -- the run of a play, in terms of what it was configured by
 pub run_of : (config : Configuration) (p : Play) → IsRun config p → IsRunFrom (empty config) p.journal
@@ -155,24 +157,25 @@ drained_all_commanded config (block ∷ blocks) p limit run drained =
     drained_all_commanded config blocks (after_command p block) limit (kept_commanded Any (IsRun config) (keeps_run config) block tt p run)
     (drained_commanded config block p limit run drained)
 
-pub run_begun : (config : Configuration) → IsRun config (new_play config)
-run_begun config = record { config_is = refl; run = tt }
+pub run_begun : (config : Configuration) (notes : List LoadNote) → IsRun config (new_play config notes)
+run_begun config notes = record { config_is = refl; run = tt }
 
-pub run_conversed : (config : Configuration) (input : List ℕ) → IsRun config (after_conversing config input)
-run_conversed config input =
-    kept_all_commanded Any (IsRun config) (keeps_run config) (λ block. tt) (blocks_of input) (after_opening config)
-    (kept_opened Any (IsRun config) (keeps_run config) tt config (run_begun config))
+pub run_conversed : (config : Configuration) (input : List ℕ) (notes : List LoadNote) → IsRun config (after_conversing config input notes)
+run_conversed config input notes =
+    kept_all_commanded Any (IsRun config) (keeps_run config) (λ block. tt) (blocks_of input) (after_opening config notes)
+    (kept_opened Any (IsRun config) (keeps_run config) tt config notes (run_begun config notes))
 
-pub drained_conversed : (config : Configuration) (input : List ℕ) → config.settings.journal_limit ≤ 1073741824 →
-    Drained (after_conversing config input)
-drained_conversed config input limit =
-    drained_all_commanded config (blocks_of input) (after_opening config) limit
-    (kept_opened Any (IsRun config) (keeps_run config) tt config (run_begun config))
-    (drained_acted config Arrive (new_play config) limit (run_begun config))
+pub drained_conversed : (config : Configuration) (input : List ℕ) (notes : List LoadNote) → config.settings.journal_limit ≤ 1073741824 →
+    Drained (after_conversing config input notes)
+drained_conversed config input notes limit =
+    drained_all_commanded config (blocks_of input) (after_opening config notes) limit
+    (kept_opened Any (IsRun config) (keeps_run config) tt config notes (run_begun config notes))
+    (drained_acted config Arrive (new_play config notes) limit (run_begun config notes))
 
-pub run_ended : (config : Configuration) (input : List ℕ) → IsRun config (after_input_end (after_conversing config input))
-run_ended config input =
-    kept_input_ended Any (IsRun config) (keeps_run config) tt (after_conversing config input) (run_conversed config input)
+pub run_ended : (config : Configuration) (input : List ℕ) (notes : List LoadNote) →
+    IsRun config (after_input_end (after_conversing config input notes))
+run_ended config input notes =
+    kept_input_ended Any (IsRun config) (keeps_run config) tt (after_conversing config input notes) (run_conversed config input notes)
 
 pub drained_ended : (config : Configuration) (p : Play) → config.settings.journal_limit ≤ 1073741824 → IsRun config p → Drained p →
     Drained (after_input_end p)
@@ -199,6 +202,7 @@ keeps_unfailed = by_each IsUnfailed Unfailed (record {
   works = λ slot. tt;
   dials = λ slot. tt;
   jobs = λ number. tt;
+  loads = λ number note. tt;
   takes = tt;
   enters =
       λ act such p h. elim (is_over p) as (λ b. Unfailed
@@ -206,15 +210,16 @@ keeps_unfailed = by_each IsUnfailed Unfailed (record {
         | true ↦ h
         | false ↦ unfailed_judged (refusal_of (switch_of p) (entry_of act p)) (entry_of act p) p such h
       ];
-  runs_away = λ p h. elim (is_over p) as (λ b. Unfailed (cond b p (record p { end = Some (Runaway 100000) }))) [ true ↦ h | false ↦ h ];
+  ends = λ end early p h. elim (is_over p) as (λ b. Unfailed (cond b p (record p { end = Some end }))) [ true ↦ h | false ↦ h ];
   goes_on = λ moment p h. h;
 })
 
-unfailed_ended : (config : Configuration) (input : List ℕ) → Unfailed (after_input_end (after_conversing config input))
-unfailed_ended config input =
-    kept_input_ended IsUnfailed Unfailed keeps_unfailed tt (after_conversing config input)
-    (kept_all_commanded IsUnfailed Unfailed keeps_unfailed (λ block. tt) (blocks_of input) (after_opening config)
-    (kept_opened IsUnfailed Unfailed keeps_unfailed tt config tt))
+unfailed_ended : (config : Configuration) (input : List ℕ) (notes : List LoadNote) →
+    Unfailed (after_input_end (after_conversing config input notes))
+unfailed_ended config input notes =
+    kept_input_ended IsUnfailed Unfailed keeps_unfailed tt (after_conversing config input notes)
+    (kept_all_commanded IsUnfailed Unfailed keeps_unfailed (λ block. tt) (blocks_of input) (after_opening config notes)
+    (kept_opened IsUnfailed Unfailed keeps_unfailed tt config notes tt))
 
 -- ---- frames
 
@@ -259,30 +264,31 @@ pub nothing_waits : (p : Play) → Drained p → is_over p ≡ false → waits_i
 nothing_waits p (inl over) goes_on = absurd (cc)
 nothing_waits p (inr nothing) goes_on = nothing
 
-whole_closed : (config : Configuration) (input : List ℕ) → config.settings.journal_limit ≤ 1073741824 →
-    is_over (after_closing (after_conversing config input)) ≡ false → IsWhole config (after_closing (after_conversing config input))
-whole_closed config input limit goes_on =
-    let q = after_input_end (after_conversing config input) in
+whole_closed : (config : Configuration) (input : List ℕ) (notes : List LoadNote) → config.settings.journal_limit ≤ 1073741824 →
+    is_over (after_closing (after_conversing config input notes)) ≡ false → IsWhole config (after_closing (after_conversing config input notes))
+whole_closed config input notes limit goes_on =
+    let q = after_input_end (after_conversing config input notes) in
     let still : is_over q ≡ false = not_over q goes_on in
     let cause = refusal_of (switch_of q) (entry_of (Close 1 Sent) q) in
     let nothing =
-    nothing_waits q (drained_ended config (after_conversing config input) limit (run_conversed config input)
-    (drained_conversed config input limit)) still in
-    let is : after_closing (after_conversing config input) ≡ after_judging cause (entry_of (Close 1 Sent) q) q =
+    nothing_waits q (drained_ended config (after_conversing config input notes) limit (run_conversed config input notes)
+    (drained_conversed config input notes limit)) still in
+    let is : after_closing (after_conversing config input notes) ≡ after_judging cause (entry_of (Close 1 Sent) q) q =
     ap (λ b. cond b q (after_judging cause (entry_of (Close 1 Sent) q) q)) still in
     subst (λ (p : Play). IsWhole config p) (sym is)
-    (whole_judged config cause q limit (run_ended config input) (subst (λ (p : Play). IsRun config p) is (run_closed config input))
-    (unfailed_ended config input) nothing (ap is_over (sym is) ∙ goes_on))
+    (whole_judged config cause q limit (run_ended config input notes) (subst (λ (p : Play). IsRun config p) is (run_closed config input notes))
+    (unfailed_ended config input notes) nothing (ap is_over (sym is) ∙ goes_on))
 
 -- ---- the whole play
 
 -- what is handed out is the first of what is given
-pub first_played : (config : Configuration) (input : List ℕ) (read_failed : Bool) → config.settings.journal_limit ≤ 1073741824 →
-    (more : List ℕ) × (concat (frames_from 1 (empty config) (played config input read_failed).journal)
-    ≡ bytes_handed config (played config input read_failed).journal ++ more)
-first_played config input read_failed limit =
-    let journal = (played config input read_failed).journal in
-    let first = handed_first config journal 1 limit (run_played config input read_failed) in
+pub first_played : (config : Configuration) (input : List ℕ) (read_failed : Bool) (notes : List LoadNote) →
+    config.settings.journal_limit ≤ 1073741824 →
+    (more : List ℕ) × (concat (frames_from 1 (empty config) (played config input read_failed notes).journal)
+    ≡ bytes_handed config (played config input read_failed notes).journal ++ more)
+first_played config input read_failed notes limit =
+    let journal = (played config input read_failed notes).journal in
+    let first = handed_first config journal 1 limit (run_played config input read_failed notes) in
     (concat first.0, ap concat first.1 ∙ concat-append (handed_from 1 (empty config) journal) first.0)
 
 whole_concluded : (config : Configuration) (how end : End) (p : Play) → (is_over p ≡ false → IsWhole config p) → Early p →
@@ -294,17 +300,19 @@ whole_concluded config how end p whole early is not_early = by (is_over p) refl 
     by true over e = absurd (both_ways (is_early end) not_early (subst EndsEarly e early))
     by false goes_on e = whole goes_on
 
-whole_played : (config : Configuration) (input : List ℕ) (read_failed : Bool) (end : End) → config.settings.journal_limit ≤ 1073741824 →
-    (played config input read_failed).end ≡ Some end → is_early end ≡ false → IsWhole config (played config input read_failed)
+whole_played : (config : Configuration) (input : List ℕ) (read_failed : Bool) (notes : List LoadNote) (end : End) →
+    config.settings.journal_limit ≤ 1073741824 →
+    (played config input read_failed notes).end ≡ Some end → is_early end ≡ false → IsWhole config (played config input read_failed notes)
 unfolding played_as
-whole_played config input read_failed end limit is not_early =
-    whole_concluded config (end_behind (farewell (after_conversing config input)) (fault_of (rest_of input)) read_failed) end
-    (after_closing (after_conversing config input))
-    (whole_closed config input limit) (early_closed config input) is not_early
+whole_played config input read_failed notes end limit is not_early =
+    whole_concluded config (end_behind (farewell (after_conversing config input notes)) (fault_of (rest_of input)) read_failed) end
+    (after_closing (after_conversing config input notes))
+    (whole_closed config input notes limit) (early_closed config input notes) is not_early
 
 -- all is handed out, unless the play ends before the connection
-pub all_played : (config : Configuration) (input : List ℕ) (read_failed : Bool) (end : End) → config.settings.journal_limit ≤ 1073741824 →
-    (played config input read_failed).end ≡ Some end → is_early end ≡ false →
-    bytes_handed config (played config input read_failed).journal
-    ≡ concat (frames_from 1 (empty config) (played config input read_failed).journal)
-all_played config input read_failed end limit is not_early = ap concat (sym (whole_played config input read_failed end limit is not_early))
+pub all_played : (config : Configuration) (input : List ℕ) (read_failed : Bool) (notes : List LoadNote) (end : End) →
+    config.settings.journal_limit ≤ 1073741824 →
+    (played config input read_failed notes).end ≡ Some end → is_early end ≡ false →
+    bytes_handed config (played config input read_failed notes).journal
+    ≡ concat (frames_from 1 (empty config) (played config input read_failed notes).journal)
+all_played config input read_failed notes end limit is not_early = ap concat (sym (whole_played config input read_failed notes end limit is not_early))

@@ -17,12 +17,11 @@ use Rattle.fs_machine.specs.Runs.{run_from}
 use Rattle.fs_machine.proofs.RunLemmas.{run_more}
 use Rattle.fs_machine.proofs.FrameLemmas.{take_owes}
 use Rattle.fs_machine.proofs.HereLemmas.{ClosesNone, here_step, arrival_accepted, arrival_here}
-use Rattle.fs_conn.specs.declared.end.End.TheVariants.{Runaway}
 use Rattle.fs_conn.specs.declared.stop.Stop.{Stop}
 use Rattle.fs_conn.specs.Play.{Play, switch_of, is_over, after_judging, after_trying_act, repeated, after_taking_all, after_following}
 use Rattle.fs_conn.specs.Play.{after_taking_all_as}
 use Rattle.fs_conn.specs.Steps.{entry_of, Does, Accepts, Rejects}
-use Rattle.fs_conn.specs.Playing.{Playing, play_of}
+use Rattle.fs_conn.specs.Playing.{Playing, so_far}
 use Rattle.fs_conn.proofs.StepLemmas.{longer}
 use Rattle.fs_conn.proofs.KeepLemmas.{Keeps, by_each, kept_repeated, kept_followed, kept_acted}
 
@@ -51,10 +50,11 @@ keeps_here = by_each ClosesNone Here (record {
   works = λ slot. tt;
   dials = λ slot. tt;
   jobs = λ number. tt;
+  loads = λ number note. tt;
   takes = tt;
   enters = here_entered;
-  runs_away =
-      λ p here. elim (is_over p) as (λ b. Here (cond b p (record p { end = Some (Runaway 100000) }))) [
+  ends =
+      λ end early p here. elim (is_over p) as (λ b. Here (cond b p (record p { end = Some end }))) [
         | true ↦ here
         | false ↦ λ goes_on. absurd (cc)
       ];
@@ -75,19 +75,19 @@ here_commanded old mid new block here mid_is new_is goes_on =
 -- ---- it comes
 
 -- nothing speaks against its coming
-pub never_turned_away : (s : Playing) (new : Play) → s.journal ≡ [] → IsWithin s.config → Rejects Arrive (play_of s) new → ⊥
+pub never_turned_away : (s : Playing) (new : Play) → s.journal ≡ [] → IsWithin s.config → Rejects Arrive (so_far s) new → ⊥
 never_turned_away s new begun within refused =
-    let p = play_of s in
+    let p = so_far s in
     let none : refusal_of (switch_of p) (entry_of Arrive p) ≡ None =
     ap (λ (entries : List Entry). refusal_of (run_from (empty s.config) entries) (entry_of Arrive p)) begun
     ∙ arrival_accepted s.config s.clock within in
     longer p (entry_of Arrive p) (sym refused.same ∙ refused.does ∙ ap (λ cause. after_judging cause (entry_of Arrive p) p) none)
 
 -- and then it is there
-pub here_arrived : (s : Playing) (new : Play) (reply : Reply) → s.journal ≡ [] → IsWithin s.config → Accepts Arrive (play_of s) new reply →
+pub here_arrived : (s : Playing) (new : Play) (reply : Reply) → s.journal ≡ [] → IsWithin s.config → Accepts Arrive (so_far s) new reply →
     IsHere 1 (switch_of new)
 here_arrived s new reply begun within accepts =
-    let entry = entry_of Arrive (play_of s) in
+    let entry = entry_of Arrive (so_far s) in
     subst (λ (p : Play). IsHere 1 (switch_of p)) (sym accepts.does)
     (subst (λ (entries : List Entry). IsHere 1 (run_from (empty s.config) (entries ++ entry ∷ []))) (sym begun)
     (arrival_here s.config s.clock within))

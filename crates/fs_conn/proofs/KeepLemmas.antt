@@ -1,20 +1,26 @@
 -- What holds of a play is kept by its steps.
-use Rattle.std.proofs.Common.{◌≡◌, ◌^◌, ℕ, zero, suc, Bool, true, false, not, ◌&&◌, cond, List, [], ◌∷◌, length, refl, sym, subst}
+use Rattle.std.proofs.Common.{◌≡◌, ◌^◌, ℕ, zero, suc, Bool, true, false, not, ◌&&◌, cond, List, [], ◌∷◌, length, Option, None, Some, refl}
+use Rattle.std.proofs.Common.{sym, subst}
 use Rattle.fs_doc.specs.Reading.{Configuration}
 use Rattle.fs_state.specs.Switch.{waiting_for}
 use Rattle.fs_machine.specs.declared.due.DueActor.{DueActor}
 use Rattle.fs_machine.specs.declared.due.DueActor.TheVariants as due
 use Rattle.fs_machine.specs.declared.entry.Act.{Act}
-use Rattle.fs_machine.specs.declared.entry.Act.TheVariants.{Arrive, Command, Take, Close, Dialed, Work, Job}
+use Rattle.fs_machine.specs.declared.entry.Act.TheVariants.{Arrive, Command, Take, Close, Dialed, Work, Job, Loaded}
 use Rattle.fs_machine.specs.declared.entry.Closing.TheVariants.{EndOfInput, Sent}
 use Rattle.fs_machine.specs.Questions.{owes}
+use Rattle.fs_conn.specs.declared.end.End.{End}
 use Rattle.fs_conn.specs.declared.end.End.TheVariants.{Runaway}
-use Rattle.fs_conn.specs.Play.{Play, switch_of, new_play, is_over, with_end, after_trying_act, repeated, after_due_work, next_actor, after_due_step}
+use Rattle.fs_conn.specs.Play.{Play, switch_of, new_play, is_over, with_end, after_trying_act, repeated, after_due_work, next_actor}
+use Rattle.fs_conn.specs.Play.{after_due_step}
 use Rattle.fs_conn.specs.Play.{with_runaway_end_by, with_runaway_end, after_settling, waits, after_waiting_until, after_waiting_once}
 use Rattle.fs_conn.specs.Play.{after_waiting, after_taking_all, after_following, after_act, reads_on, takes_commands, after_command}
 use Rattle.fs_conn.specs.Play.{after_commands, after_opening, after_input_end, after_closing, after_taking_all_as, after_settling_as}
-use Rattle.fs_conn.specs.Play.{after_waiting_as}
+use Rattle.fs_conn.specs.Play.{after_waiting_as, end_unnoted, after_loading, next_note}
+use Rattle.fs_conn.specs.Steps.{is_early}
+use Rattle.fs_conn.proofs.PlayLemmas.{unnoted_early}
 use Rattle.fs_conn.proofs.RoundLemmas.{repeated_more}
+use Rattle.fs_machine.specs.declared.note.LoadNote.{LoadNote}
 
 -- what holds of a play holds still once an act of this kind was tried, once all that is due was worked, and, while the play goes on,
 -- whatever the clock says; of this kind are the Takes that a play enters by itself
@@ -24,14 +30,16 @@ pub record Keeps (IsSuch : Act → Type 0) (Holds : Play → Type 0) : Type 0 wh
   pub settles : (p : Play) → Holds p → Holds (after_settling p)
   pub goes_on : (moment : ℕ) (p : Play) → is_over p ≡ false → Holds p → Holds (record p { clock = moment })
 
--- the same, where all acts that a play enters by itself are of this kind, and it holds also once the play has run away
+-- the same, where all acts that a play enters by itself are of this kind, and it holds also once the play has come to an end before that of
+-- its connection
 pub record KeepsEach (IsSuch : Act → Type 0) (Holds : Play → Type 0) : Type 0 where
   pub works : (slot : ℕ) → IsSuch (Work slot)
   pub dials : (slot : ℕ) → IsSuch (Dialed slot false)
   pub jobs : (number : ℕ) → IsSuch (Job number)
+  pub loads : (number : ℕ) (note : LoadNote) → IsSuch (Loaded number note)
   pub takes : IsSuch (Take 1)
   pub enters : (act : Act) → IsSuch act → (p : Play) → Holds p → Holds (after_trying_act act p)
-  pub runs_away : (p : Play) → Holds p → Holds (with_end (Runaway 100000) p)
+  pub ends : (end : End) → is_early end ≡ true → (p : Play) → Holds p → Holds (with_end end p)
   pub goes_on : (moment : ℕ) (p : Play) → Holds p → Holds (record p { clock = moment })
 
 pub kept_repeated : (Holds : Play → Type 0) (n : ℕ) (f : Play → Play) → ((p : Play) → Holds p → Holds (f p)) → (p : Play) → Holds p →
@@ -42,19 +50,26 @@ kept_repeated Holds (suc n) f keeps p holds = kept_repeated Holds n f keeps (f p
 
 -- ---- what is due
 
+kept_loaded : (IsSuch : Act → Type 0) (Holds : Play → Type 0) → KeepsEach IsSuch Holds → (number : ℕ) (note : Option LoadNote) (p : Play) →
+    Holds p → Holds (after_loading number note p)
+kept_loaded IsSuch Holds keeps number None p holds = keeps.ends (end_unnoted (switch_of p)) (unnoted_early (switch_of p)) p holds
+kept_loaded IsSuch Holds keeps number (Some note) p holds = keeps.enters (Loaded number note) (keeps.loads number note) p holds
+
 kept_worked : (IsSuch : Act → Type 0) (Holds : Play → Type 0) → KeepsEach IsSuch Holds → (actor : DueActor) (p : Play) → Holds p →
     Holds (after_due_work actor p)
 kept_worked IsSuch Holds keeps (due.Slot slot) p holds = keeps.enters (Work slot) (keeps.works slot) p holds
 kept_worked IsSuch Holds keeps (due.Dial slot) p holds = keeps.enters (Dialed slot false) (keeps.dials slot) p holds
-kept_worked IsSuch Holds keeps (due.Job job) p holds = keeps.enters (Job job) (keeps.jobs job) p holds
+kept_worked IsSuch Holds keeps (due.Job number) p holds = keeps.enters (Job number) (keeps.jobs number) p holds
+kept_worked IsSuch Holds keeps (due.Load number) p holds = kept_loaded IsSuch Holds keeps number (next_note p) p holds
 kept_worked IsSuch Holds keeps (due.Later moment) p holds = holds
 kept_worked IsSuch Holds keeps due.Never p holds = holds
 
 kept_stopped : (IsSuch : Act → Type 0) (Holds : Play → Type 0) → KeepsEach IsSuch Holds → (actor : DueActor) (p : Play) → Holds p →
     Holds (with_runaway_end_by actor p)
-kept_stopped IsSuch Holds keeps (due.Slot slot) p holds = keeps.runs_away p holds
-kept_stopped IsSuch Holds keeps (due.Dial slot) p holds = keeps.runs_away p holds
-kept_stopped IsSuch Holds keeps (due.Job job) p holds = keeps.runs_away p holds
+kept_stopped IsSuch Holds keeps (due.Slot slot) p holds = keeps.ends (Runaway 100000) refl p holds
+kept_stopped IsSuch Holds keeps (due.Dial slot) p holds = keeps.ends (Runaway 100000) refl p holds
+kept_stopped IsSuch Holds keeps (due.Job number) p holds = keeps.ends (Runaway 100000) refl p holds
+kept_stopped IsSuch Holds keeps (due.Load number) p holds = keeps.ends (Runaway 100000) refl p holds
 kept_stopped IsSuch Holds keeps (due.Later moment) p holds = holds
 kept_stopped IsSuch Holds keeps due.Never p holds = holds
 
@@ -66,7 +81,8 @@ kept_all_worked : (IsSuch : Act → Type 0) (Holds : Play → Type 0) → KeepsE
     Holds (repeated n after_due_step p)
 kept_all_worked IsSuch Holds keeps n p holds = kept_repeated Holds n after_due_step (kept_worked_once IsSuch Holds keeps) p holds
 
-pub kept_settled : (IsSuch : Act → Type 0) (Holds : Play → Type 0) → KeepsEach IsSuch Holds → (p : Play) → Holds p → Holds (after_settling p)
+pub kept_settled : (IsSuch : Act → Type 0) (Holds : Play → Type 0) → KeepsEach IsSuch Holds → (p : Play) → Holds p →
+    Holds (after_settling p)
 unfolding after_settling_as
 kept_settled IsSuch Holds keeps p holds =
     let q = repeated 100000 after_due_step p in
@@ -97,7 +113,8 @@ kept_until IsSuch Holds keeps (due.Later moment) p still holds =
     keeps.settles (record p { clock = moment }) (keeps.goes_on moment p still holds)
 kept_until IsSuch Holds keeps (due.Slot slot) p still holds = holds
 kept_until IsSuch Holds keeps (due.Dial slot) p still holds = holds
-kept_until IsSuch Holds keeps (due.Job job) p still holds = holds
+kept_until IsSuch Holds keeps (due.Job number) p still holds = holds
+kept_until IsSuch Holds keeps (due.Load number) p still holds = holds
 kept_until IsSuch Holds keeps due.Never p still holds = holds
 
 -- a play that waits goes on
@@ -143,9 +160,10 @@ kept_acted IsSuch Holds keeps act such p holds = kept_followed IsSuch Holds keep
 
 -- ---- the conversation
 
-pub kept_opened : (IsSuch : Act → Type 0) (Holds : Play → Type 0) → Keeps IsSuch Holds → IsSuch Arrive → (config : Configuration) →
-    Holds (new_play config) → Holds (after_opening config)
-kept_opened IsSuch Holds keeps such config holds = kept_acted IsSuch Holds keeps Arrive such (new_play config) holds
+pub kept_opened : (IsSuch : Act → Type 0) (Holds : Play → Type 0) → Keeps IsSuch Holds → IsSuch Arrive →
+    (config : Configuration) (notes : List LoadNote) →
+    Holds (new_play config notes) → Holds (after_opening config notes)
+kept_opened IsSuch Holds keeps such config notes holds = kept_acted IsSuch Holds keeps Arrive such (new_play config notes) holds
 
 pub kept_commanded : (IsSuch : Act → Type 0) (Holds : Play → Type 0) → Keeps IsSuch Holds → (block : List ℕ) → IsSuch (Command 1 block) →
     (p : Play) → Holds p → Holds (after_command p block)

@@ -17,11 +17,11 @@ use Rattle.fs_machine.specs.Frames.{handed_in, handed_from}
 use Rattle.fs_machine.proofs.RunLemmas.{is_run_more}
 use Rattle.fs_machine.proofs.FramesLaws.{settings_run}
 use Rattle.fs_conn.specs.declared.end.End.{End}
-use Rattle.fs_conn.specs.declared.end.End.TheVariants.{Runaway}
 use Rattle.fs_conn.specs.Play.{Play, switch_of, bytes_handed, is_over, with_end, after_judging, after_trying_act, after_opening}
 use Rattle.fs_conn.specs.Play.{after_conversing, after_closing, farewell, end_behind, played, played_as}
 use Rattle.fs_conn.specs.Steps.{is_early, entry_of}
 use Rattle.fs_conn.proofs.KeepLemmas.{Keeps, KeepsEach, by_each, kept_opened, kept_all_commanded, kept_closed}
+use Rattle.fs_machine.specs.declared.note.LoadNote.{LoadNote}
 
 -- every act
 abbrev pub Any : Act → Type 0
@@ -44,6 +44,7 @@ each_run config = record {
   works = λ slot. tt;
   dials = λ slot. tt;
   jobs = λ number. tt;
+  loads = λ number note. tt;
   takes = tt;
   enters =
       λ act such p h. elim (is_over p) as (λ b. IsRun config
@@ -51,8 +52,8 @@ each_run config = record {
         | true ↦ h
         | false ↦ run_judged config (refusal_of (switch_of p) (entry_of act p)) (entry_of act p) p refl h
       ];
-  runs_away =
-      λ p h. elim (is_over p) as (λ b. IsRun config (cond b p (record p { end = Some (Runaway 100000) }))) [
+  ends =
+      λ end early p h. elim (is_over p) as (λ b. IsRun config (cond b p (record p { end = Some end }))) [
         | true ↦ h
         | false ↦ record { config_is = h.config_is; run = h.run }
       ];
@@ -67,33 +68,36 @@ run_concluded config end p h =
     elim (is_over p) as (λ b. IsRun config (cond b p (record p { end = Some end })))
     [ true ↦ h | false ↦ record { config_is = h.config_is; run = h.run } ]
 
-pub run_closed : (config : Configuration) (input : List ℕ) → IsRun config (after_closing (after_conversing config input))
-run_closed config input =
-    kept_closed Any (IsRun config) (keeps_run config) tt tt (after_conversing config input)
-    (kept_all_commanded Any (IsRun config) (keeps_run config) (λ block. tt) (blocks_of input) (after_opening config)
-    (kept_opened Any (IsRun config) (keeps_run config) tt config (record { config_is = refl; run = tt })))
+pub run_closed : (config : Configuration) (input : List ℕ) (notes : List LoadNote) →
+    IsRun config (after_closing (after_conversing config input notes))
+run_closed config input notes =
+    kept_closed Any (IsRun config) (keeps_run config) tt tt (after_conversing config input notes)
+    (kept_all_commanded Any (IsRun config) (keeps_run config) (λ block. tt) (blocks_of input) (after_opening config notes)
+    (kept_opened Any (IsRun config) (keeps_run config) tt config notes (record { config_is = refl; run = tt })))
 
-run_whole : (config : Configuration) (input : List ℕ) (read_failed : Bool) → IsRun config (played config input read_failed)
+run_whole : (config : Configuration) (input : List ℕ) (read_failed : Bool) (notes : List LoadNote) →
+    IsRun config (played config input read_failed notes)
 unfolding played_as
-run_whole config input read_failed =
-    run_concluded config (end_behind (farewell (after_conversing config input)) (fault_of (rest_of input)) read_failed)
-    (after_closing (after_conversing config input)) (run_closed config input)
+run_whole config input read_failed notes =
+    run_concluded config (end_behind (farewell (after_conversing config input notes)) (fault_of (rest_of input)) read_failed)
+    (after_closing (after_conversing config input notes)) (run_closed config input notes)
 
-pub config_played : (config : Configuration) (input : List ℕ) (read_failed : Bool) → (played config input read_failed).config ≡ config
-config_played config input read_failed = (run_whole config input read_failed).config_is
+pub config_played : (config : Configuration) (input : List ℕ) (read_failed : Bool) (notes : List LoadNote) →
+    (played config input read_failed notes).config ≡ config
+config_played config input read_failed notes = (run_whole config input read_failed notes).config_is
 
 -- so are the settings of the switch
-pub settings_kept : (config : Configuration) (input : List ℕ) (read_failed : Bool) →
-    (switch_of (played config input read_failed)).settings ≡ config.settings
-settings_kept config input read_failed =
-    let p = played config input read_failed in
-    settings_run (empty p.config) p.journal ∙ ap (λ (c : Configuration). c.settings) (config_played config input read_failed)
+pub settings_kept : (config : Configuration) (input : List ℕ) (read_failed : Bool) (notes : List LoadNote) →
+    (switch_of (played config input read_failed notes)).settings ≡ config.settings
+settings_kept config input read_failed notes =
+    let p = played config input read_failed notes in
+    settings_run (empty p.config) p.journal ∙ ap (λ (c : Configuration). c.settings) (config_played config input read_failed notes)
 
-pub run_played : (config : Configuration) (input : List ℕ) (read_failed : Bool) →
-    IsRunFrom (empty config) (played config input read_failed).journal
-run_played config input read_failed =
-    let h = run_whole config input read_failed in
-    subst (λ (c : Configuration). IsRunFrom (empty c) (played config input read_failed).journal) h.config_is h.run
+pub run_played : (config : Configuration) (input : List ℕ) (read_failed : Bool) (notes : List LoadNote) →
+    IsRunFrom (empty config) (played config input read_failed notes).journal
+run_played config input read_failed notes =
+    let h = run_whole config input read_failed notes in
+    subst (λ (c : Configuration). IsRunFrom (empty c) (played config input read_failed notes).journal) h.config_is h.run
 
 -- ---- ends before that of the connection
 
@@ -117,25 +121,27 @@ early_entered act p h =
       | false ↦ early_judged (refusal_of (switch_of p) (entry_of act p)) (entry_of act p) p h
     ]
 
-early_away : (p : Play) → Early p → Early (with_end (Runaway 100000) p)
-early_away p h = elim (is_over p) as (λ b. Early (cond b p (record p { end = Some (Runaway 100000) }))) [ true ↦ h | false ↦ refl ]
+early_ended : (end : End) → is_early end ≡ true → (p : Play) → Early p → Early (with_end end p)
+early_ended end early p h = elim (is_over p) as (λ b. Early (cond b p (record p { end = Some end }))) [ true ↦ h | false ↦ early ]
 
 keeps_early : Keeps Any Early
 keeps_early = by_each Any Early (record {
   works = λ slot. tt;
   dials = λ slot. tt;
   jobs = λ number. tt;
+  loads = λ number note. tt;
   takes = tt;
   enters = λ act such p h. early_entered act p h;
-  runs_away = early_away;
+  ends = early_ended;
   goes_on = λ moment p h. h;
 })
 
-pub early_closed : (config : Configuration) (input : List ℕ) → Early (after_closing (after_conversing config input))
-early_closed config input =
-    kept_closed Any Early keeps_early tt tt (after_conversing config input)
-    (kept_all_commanded Any Early keeps_early (λ block. tt) (blocks_of input) (after_opening config)
-    (kept_opened Any Early keeps_early tt config tt))
+pub early_closed : (config : Configuration) (input : List ℕ) (notes : List LoadNote) →
+    Early (after_closing (after_conversing config input notes))
+early_closed config input notes =
+    kept_closed Any Early keeps_early tt tt (after_conversing config input notes)
+    (kept_all_commanded Any Early keeps_early (λ block. tt) (blocks_of input) (after_opening config notes)
+    (kept_opened Any Early keeps_early tt config notes tt))
 
 -- ---- every play ends
 
@@ -146,12 +152,12 @@ ended_some how p = by p.end refl
     by None is = (how, ap (λ over. (cond over p (record p { end = Some how })).end) (ap is_some is))
     by (Some end) is = (end, ap (λ over. (cond over p (record p { end = Some how })).end) (ap is_some is) ∙ is)
 
-pub ends_played : (config : Configuration) (input : List ℕ) (read_failed : Bool) →
-    (end : End) × ((played config input read_failed).end ≡ Some end)
+pub ends_played : (config : Configuration) (input : List ℕ) (read_failed : Bool) (notes : List LoadNote) →
+    (end : End) × ((played config input read_failed notes).end ≡ Some end)
 unfolding played_as
-ends_played config input read_failed =
-    ended_some (end_behind (farewell (after_conversing config input)) (fault_of (rest_of input)) read_failed)
-    (after_closing (after_conversing config input))
+ends_played config input read_failed notes =
+    ended_some (end_behind (farewell (after_conversing config input notes)) (fault_of (rest_of input)) read_failed)
+    (after_closing (after_conversing config input notes))
 
 -- ---- what is handed out
 

@@ -6,6 +6,8 @@ mod SendLemmas
 mod WriteLemmas
 mod KeepLemmas
 mod HereLemmas
+mod NoteLemmas
+mod LoadLemmas
 mod HeldLemmas
 mod TurnLemmas
 mod EndLemmas

@@ -13,7 +13,7 @@ use Rattle.fs_state.specs.declared.conn.Parting.TheVariants as parting
 use Rattle.fs_state.specs.Switch.{Switch, empty, is_full}
 use Rattle.fs_machine.specs.declared.entry.Entry.{Entry}
 use Rattle.fs_machine.specs.declared.entry.Act.{Act}
-use Rattle.fs_machine.specs.declared.entry.Act.TheVariants.{Arrive, Command, Take, Close, Dialed, Work, Job, Halt}
+use Rattle.fs_machine.specs.declared.entry.Act.TheVariants.{Arrive, Command, Take, Close, Dialed, Work, Job, Loaded, Halt}
 use Rattle.fs_machine.specs.declared.refusal.Refusal.{Refusal}
 use Rattle.fs_machine.specs.declared.refusal.Refusal.TheVariants as refusal
 use Rattle.fs_machine.specs.Connections.{phase_at}
@@ -37,6 +37,7 @@ use Rattle.fs_conn.specs.Ends.{PartsFor, command_at, IsPartedBy, EndsFor, IsPart
 use Rattle.fs_conn.proofs.KeepLemmas.{Keeps, by_each, kept_followed, kept_closed}
 use Rattle.fs_conn.proofs.CloseLemmas.{longer_by, switch_longer, none_left_of}
 use Rattle.fs_conn.proofs.CommandLemmas.{IsSilent, commands_more, commands_append, both_hold}
+use Rattle.fs_machine.specs.declared.note.LoadNote.{LoadNote}
 
 -- ---- a journal that grows
 
@@ -113,6 +114,7 @@ module _ (Told : Configuration → List Entry → Type 0)
     works = λ slot. refl;
     dials = λ slot. refl;
     jobs = λ number. refl;
+    loads = λ number note. refl;
     takes = refl;
     enters =
         λ act such p h. elim (is_over p) as (λ b. ToldOf
@@ -120,7 +122,7 @@ module _ (Told : Configuration → List Entry → Type 0)
           | true ↦ h
           | false ↦ told_judged (refusal_of (switch_of p) (entry_of act p)) (entry_of act p) p such h
         ];
-    runs_away = λ p h. elim (is_over p) as (λ b. ToldOf (cond b p (record p { end = Some (Runaway 100000) }))) [ true ↦ h | false ↦ h ];
+    ends = λ end early p h. elim (is_over p) as (λ b. ToldOf (cond b p (record p { end = Some end }))) [ true ↦ h | false ↦ h ];
     goes_on = λ moment p h. h;
   })
 
@@ -185,6 +187,7 @@ abbrev IsAside : Act → Type 0
 IsAside (Work slot) = Unit {0}
 IsAside (Dialed slot linked) = linked ≡ false
 IsAside (Job number) = Unit {0}
+IsAside (Loaded number note) = Unit {0}
 IsAside (Take taker) = Unit {0}
 IsAside _ = ⊥
 
@@ -192,6 +195,7 @@ aside_silent : (act : Act) → IsAside act → command_in 1 act ≡ []
 aside_silent (Work slot) such = refl
 aside_silent (Dialed slot linked) such = refl
 aside_silent (Job number) such = refl
+aside_silent (Loaded number note) such = refl
 aside_silent (Take taker) such = refl
 aside_silent Halt such = absurd such
 aside_silent Arrive such = absurd such
@@ -203,6 +207,7 @@ aside_keeps : (act : Act) (moment : ℕ) (s : Switch) → IsAside act → NoneLe
 aside_keeps (Work slot) moment s such none = others_part 1 moment (Work slot) s tt
 aside_keeps (Dialed slot linked) moment s such none = others_part 1 moment (Dialed slot linked) s such
 aside_keeps (Job number) moment s such none = others_part 1 moment (Job number) s tt
+aside_keeps (Loaded number note) moment s such none = others_part 1 moment (Loaded number note) s tt
 aside_keeps (Take taker) moment s such none = inl (take_keeps 1 moment taker s none)
 aside_keeps Halt moment s such none = absurd such
 aside_keeps Arrive moment s such none = absurd such
@@ -252,6 +257,7 @@ keeps_tells = by_each IsAside Tells (record {
   works = λ slot. tt;
   dials = λ slot. refl;
   jobs = λ number. tt;
+  loads = λ number note. tt;
   takes = tt;
   enters =
       λ act such p h. elim (is_over p) as (λ b. Tells
@@ -259,10 +265,10 @@ keeps_tells = by_each IsAside Tells (record {
         | true ↦ h
         | false ↦ tells_judged (refusal_of (switch_of p) (entry_of act p)) act p such refl h
       ];
-  runs_away =
-      λ p h. elim (is_over p) as (λ b. Tells (cond b p (record p { end = Some (Runaway 100000) }))) [
+  ends =
+      λ end early p h. elim (is_over p) as (λ b. Tells (cond b p (record p { end = Some end }))) [
         | true ↦ h
-        | false ↦ tells_same p (Some (Runaway 100000)) h
+        | false ↦ tells_same p (Some end) h
       ];
   goes_on = λ moment p h. record { run = h.run; here = h.here; parted = h.parted; aside = h.aside };
 })
@@ -342,16 +348,17 @@ tells_unparted p run none = record {
   aside = λ why others same. absurd (none-some why (sym none ∙ same));
 }
 
-tells_come : (cause : Option Refusal) (config : Configuration) → refusal_of (empty config) (entry_of Arrive (new_play config)) ≡ cause →
-    Tells (after_judging cause (entry_of Arrive (new_play config)) (new_play config))
-tells_come None config judged =
-    tells_unparted (longer_by Arrive (new_play config)) (judged, tt)
-    (ap (λ (s : Switch). parting_at s 1) (switch_longer Arrive (new_play config)) ∙ arrival_unparted config 0)
-tells_come (Some (refusal.JournalFull cost limit)) config judged = tells_unparted _ tt (none_parted config)
-tells_come (Some _) config judged = tells_unparted (new_play config) tt (none_parted config)
+tells_come : (cause : Option Refusal) (config : Configuration) (notes : List LoadNote) →
+    refusal_of (empty config) (entry_of Arrive (new_play config notes)) ≡ cause →
+    Tells (after_judging cause (entry_of Arrive (new_play config notes)) (new_play config notes))
+tells_come None config notes judged =
+    tells_unparted (longer_by Arrive (new_play config notes)) (judged, tt)
+    (ap (λ (s : Switch). parting_at s 1) (switch_longer Arrive (new_play config notes)) ∙ arrival_unparted config 0)
+tells_come (Some (refusal.JournalFull cost limit)) config notes judged = tells_unparted _ tt (none_parted config)
+tells_come (Some _) config notes judged = tells_unparted (new_play config notes) tt (none_parted config)
 
-pub tells_conversed : (config : Configuration) (input : List ℕ) → Tells (after_conversing config input)
-tells_conversed config input =
-    tells_all_commanded (blocks_of input) (after_opening config)
-    (kept_followed IsAside Tells keeps_tells (after_trying_act Arrive (new_play config))
-    (tells_come (refusal_of (switch_of (new_play config)) (entry_of Arrive (new_play config))) config refl))
+pub tells_conversed : (config : Configuration) (input : List ℕ) (notes : List LoadNote) → Tells (after_conversing config input notes)
+tells_conversed config input notes =
+    tells_all_commanded (blocks_of input) (after_opening config notes)
+    (kept_followed IsAside Tells keeps_tells (after_trying_act Arrive (new_play config notes))
+    (tells_come (refusal_of (switch_of (new_play config notes)) (entry_of Arrive (new_play config notes))) config notes refl))

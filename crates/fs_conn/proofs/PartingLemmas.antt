@@ -22,7 +22,7 @@ use Rattle.fs_state.specs.declared.conn.Parting.TheVariants as parting
 use Rattle.fs_state.specs.Switch.{Switch, empty, conn_of, at_moment}
 use Rattle.fs_machine.specs.declared.entry.Entry.{Entry}
 use Rattle.fs_machine.specs.declared.entry.Act.{Act}
-use Rattle.fs_machine.specs.declared.entry.Act.TheVariants.{Arrive, Command, Take, Close, Dialed, Work, Job, Halt}
+use Rattle.fs_machine.specs.declared.entry.Act.TheVariants.{Arrive, Command, Take, Close, Dialed, Work, Job, Loaded, Halt}
 use Rattle.fs_machine.specs.declared.entry.Closing.TheVariants.{EndOfInput, Sent, Failed}
 use Rattle.fs_machine.specs.declared.refusal.Refusal.TheVariants as refusal
 use Rattle.fs_machine.specs.declared.reply.Reply.{Reply}
@@ -246,6 +246,7 @@ module _ (config : Configuration) (conn : ℕ) where
   over_own front moment (Work slot) journal come still named = absurd (none-some conn named)
   over_own front moment (Dialed slot linked) journal come still named = absurd (none-some conn named)
   over_own front moment (Job number) journal come still named = absurd (none-some conn named)
+  over_own front moment (Loaded number note) journal come still named = absurd (none-some conn named)
   over_own front moment Halt journal come still named = absurd (none-some conn named)
 
   over_others : (front : List Entry) (entry : Entry) → reads (phase_at (at front) conn) ≡ false → IsOthers conn (at front) entry →
@@ -427,6 +428,7 @@ module _ (config : Configuration) (conn : ℕ) where
   parts_own front moment (Work slot) why journal come none is named = absurd (none-some conn named)
   parts_own front moment (Dialed slot linked) why journal come none is named = absurd (none-some conn named)
   parts_own front moment (Job number) why journal come none is named = absurd (none-some conn named)
+  parts_own front moment (Loaded number note) why journal come none is named = absurd (none-some conn named)
   parts_own front moment Halt why journal come none is named = absurd (none-some conn named)
 
   parts_others : (front : List Entry) (entry : Entry) (why : Parting) → parting_at (at front) conn ≡ None →
@@ -565,6 +567,7 @@ module _ (config : Configuration) (conn : ℕ) where
   no_command (Work slot) apart = refl
   no_command (Dialed slot linked) apart = refl
   no_command (Job number) apart = refl
+  no_command (Loaded number note) apart = refl
   no_command Halt apart = refl
 
   no_commands : (entries : List Entry) → NoneNames names conn entries → commands_of conn entries ≡ []

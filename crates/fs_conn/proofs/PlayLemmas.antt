@@ -1,25 +1,26 @@
 -- Each step of the definition of a play leaves one that is over as it is, and only adds entries.
 use Rattle.std.proofs.Common.{◌≡◌, ◌^◌, ℕ, zero, suc, Bool, true, false, not, ◌&&◌, cond, List, [], ◌∷◌, ◌++◌, length, Option, None, Some}
 use Rattle.std.proofs.Common.{refl, sym, ap, ◌∙◌, append_assoc, append-nil}
-use Rattle.fs_state.specs.Switch.{waiting_for}
+use Rattle.fs_state.specs.Switch.{Switch, waiting_for, is_full_for_load}
 use Rattle.fs_machine.specs.declared.due.DueActor.{DueActor}
 use Rattle.fs_machine.specs.declared.due.DueActor.TheVariants as due
 use Rattle.fs_machine.specs.declared.entry.Entry.{Entry}
 use Rattle.fs_machine.specs.declared.entry.Act.{Act}
-use Rattle.fs_machine.specs.declared.entry.Act.TheVariants.{Command, Take, Close, Dialed, Work, Job}
+use Rattle.fs_machine.specs.declared.entry.Act.TheVariants.{Command, Take, Close, Dialed, Work, Job, Loaded}
 use Rattle.fs_machine.specs.declared.entry.Closing.TheVariants.{EndOfInput, Sent}
+use Rattle.fs_machine.specs.declared.note.LoadNote.{LoadNote}
 use Rattle.fs_machine.specs.declared.refusal.Refusal.{Refusal}
 use Rattle.fs_machine.specs.declared.refusal.Refusal.TheVariants as refusal
 use Rattle.fs_machine.specs.Questions.{owes}
 use Rattle.fs_machine.specs.Step.{refusal_of}
 use Rattle.fs_conn.specs.declared.end.End.{End}
-use Rattle.fs_conn.specs.declared.end.End.TheVariants.{Runaway}
+use Rattle.fs_conn.specs.declared.end.End.TheVariants.{Memory, Runaway}
 use Rattle.fs_conn.specs.Play.{Play, switch_of, is_over, with_end, after_judging, after_trying, after_trying_act, repeated, after_due_work}
 use Rattle.fs_conn.specs.Play.{next_actor, after_due_step, with_runaway_end_by, with_runaway_end, after_settling, waits}
 use Rattle.fs_conn.specs.Play.{after_waiting_until, after_waiting_once, after_waiting, after_taking_all, after_following, after_act}
 use Rattle.fs_conn.specs.Play.{reads_on, takes_commands, after_command, after_commands, after_input_end, after_closing, after_taking_all_as}
-use Rattle.fs_conn.specs.Play.{after_settling_as, after_waiting_as}
-use Rattle.fs_conn.specs.Steps.{IsPlayFront, entry_of}
+use Rattle.fs_conn.specs.Play.{after_settling_as, after_waiting_as, end_full, end_unnoted, after_loading, next_note}
+use Rattle.fs_conn.specs.Steps.{IsPlayFront, is_early, is_due, entry_of}
 
 -- ---- fronts
 
@@ -98,10 +99,81 @@ goes_ended end = record {
 
 -- ---- what is due
 
+-- a load is entered, with the note that is left, if one is
+abbrev pub loaded_in : ℕ → Option LoadNote → Option Act
+loaded_in number None = None
+loaded_in number (Some note) = Some (Loaded number note)
+
+-- what is entered for one that has something to do
+abbrev pub act_in : Play → DueActor → Option Act
+act_in p (due.Slot slot) = Some (Work slot)
+act_in p (due.Dial slot) = Some (Dialed slot false)
+act_in p (due.Job number) = Some (Job number)
+act_in p (due.Load number) = loaded_in number (next_note p)
+act_in p (due.Later moment) = None
+act_in p due.Never = None
+
+loaded_due : (number : ℕ) (note : Option LoadNote) (act : Act) (p : Play) → loaded_in number note ≡ Some act →
+    after_loading number note p ≡ after_trying_act act p
+loaded_due number None act p is = absurd (cc is)
+loaded_due number (Some note) act p is = let same : Loaded number note ≡ act = cc is in ap (λ a. after_trying_act a p) same
+
+pub worked_due : (who : DueActor) (act : Act) (p : Play) → act_in p who ≡ Some act → after_due_work who p ≡ after_trying_act act p
+worked_due (due.Slot slot) act p is = let same : Work slot ≡ act = cc is in ap (λ a. after_trying_act a p) same
+worked_due (due.Dial slot) act p is = let same : Dialed slot false ≡ act = cc is in ap (λ a. after_trying_act a p) same
+worked_due (due.Job number) act p is = let same : Job number ≡ act = cc is in ap (λ a. after_trying_act a p) same
+worked_due (due.Load number) act p is = loaded_due number (next_note p) act p is
+worked_due (due.Later moment) act p is = absurd (cc is)
+worked_due due.Never act p is = absurd (cc is)
+
+-- nobody has something to do
+pub worked_none : (who : DueActor) (p : Play) → is_due who ≡ false → after_due_work who p ≡ p
+worked_none (due.Slot slot) p is = absurd (cc is)
+worked_none (due.Dial slot) p is = absurd (cc is)
+worked_none (due.Job number) p is = absurd (cc is)
+worked_none (due.Load number) p is = absurd (cc is)
+worked_none (due.Later moment) p is = refl
+worked_none due.Never p is = refl
+
+-- somebody has, and nothing is entered for it: no note is left for its load
+unnoted_due : (number : ℕ) (note : Option LoadNote) (p : Play) → loaded_in number note ≡ None →
+    after_loading number note p ≡ with_end (end_unnoted (switch_of p)) p
+unnoted_due number None p is = refl
+unnoted_due number (Some note) p is = absurd (cc is)
+
+pub worked_unnoted : (who : DueActor) (p : Play) → is_due who ≡ true → act_in p who ≡ None →
+    after_due_work who p ≡ with_end (end_unnoted (switch_of p)) p
+worked_unnoted (due.Slot slot) p is none = absurd (cc none)
+worked_unnoted (due.Dial slot) p is none = absurd (cc none)
+worked_unnoted (due.Job number) p is none = absurd (cc none)
+worked_unnoted (due.Load number) p is none = unnoted_due number (next_note p) p none
+worked_unnoted (due.Later moment) p is none = absurd (cc is)
+worked_unnoted due.Never p is none = absurd (cc is)
+
+-- it ends before its connection then
+pub unnoted_early : (s : Switch) → is_early (end_unnoted s) ≡ true
+unnoted_early s = by (is_full_for_load s)
+  where
+    by : (full : Bool) → is_early (cond full (end_full s) Memory) ≡ true
+    by true = refl
+    by false = refl
+
+loaded_over : (number : ℕ) (note : Option LoadNote) (p : Play) → is_over p ≡ true → after_loading number note p ≡ p
+loaded_over number None p over = (goes_ended (end_unnoted (switch_of p))).over p over
+loaded_over number (Some note) p over = (goes_entered (Loaded number note)).over p over
+
+pub loaded_begins : (number : ℕ) (note : Option LoadNote) (p : Play) → IsPlayFront p (after_loading number note p)
+loaded_begins number None p = (goes_ended (end_unnoted (switch_of p))).begins p
+loaded_begins number (Some note) p = (goes_entered (Loaded number note)).begins p
+
 goes_worked_by : (actor : DueActor) → Goes (after_due_work actor)
 goes_worked_by (due.Slot slot) = goes_entered (Work slot)
 goes_worked_by (due.Dial slot) = goes_entered (Dialed slot false)
-goes_worked_by (due.Job job) = goes_entered (Job job)
+goes_worked_by (due.Job number) = goes_entered (Job number)
+goes_worked_by (due.Load number) = record {
+  over = λ p over. loaded_over number (next_note p) p over;
+  begins = λ p. loaded_begins number (next_note p) p;
+}
 goes_worked_by (due.Later moment) = record { over = λ p over. refl; begins = begins_self }
 goes_worked_by due.Never = record { over = λ p over. refl; begins = begins_self }
 
@@ -114,7 +186,8 @@ goes_worked_once = record {
 goes_stopped_by : (actor : DueActor) → Goes (with_runaway_end_by actor)
 goes_stopped_by (due.Slot slot) = goes_ended (Runaway 100000)
 goes_stopped_by (due.Dial slot) = goes_ended (Runaway 100000)
-goes_stopped_by (due.Job job) = goes_ended (Runaway 100000)
+goes_stopped_by (due.Job number) = goes_ended (Runaway 100000)
+goes_stopped_by (due.Load number) = goes_ended (Runaway 100000)
 goes_stopped_by (due.Later moment) = record { over = λ p over. refl; begins = begins_self }
 goes_stopped_by due.Never = record { over = λ p over. refl; begins = begins_self }
 

@@ -19,10 +19,12 @@ use Rattle.fs_conn.specs.Play.{Play, switch_of, output_of, after_trying_act, rep
 use Rattle.fs_conn.specs.Play.{after_taking_all_as}
 use Rattle.fs_conn.specs.Wired.{Wired, IsUnread}
 use Rattle.fs_conn.specs.Steps.{IsPlayFront, Halts, Does, Accepts, Enters, Puts, Clears}
-use Rattle.fs_conn.specs.Playing.{Lent, Playing, seen, play_of, ReadsNothing, OnlyPlays, Writing, with_written, Fails, Sends, HasFilled, MayClose}
+use Rattle.fs_conn.specs.Playing.{so_far, HasFilledSo, Lent, Playing, seen, play_of, ReadsNothing, OnlyPlays, Writing, with_written, Fails}
+use Rattle.fs_conn.specs.Playing.{Sends, HasFilled, MayClose}
 use Rattle.fs_conn.proofs.PlayLemmas.{begins_self, goes_entered}
 use Rattle.fs_conn.proofs.StepLemmas.{does_enters}
 use Rattle.fs_conn.proofs.RoundLemmas.{round_stops_at}
+use Rattle.fs_machine.specs.declared.note.LoadNote.{LoadNote}
 
 -- a Take hands out a frame
 pub take_replies : (old new : Play) (answer : Reply) → Accepts (Take 1) old new answer →
@@ -60,33 +62,33 @@ pub reads_then : (old mid new : Playing) → ReadsNothing old mid → ReadsNothi
 reads_then old mid new first then = record { input = then.input ∙ first.input; lent = then.lent ∙ first.lent }
 
 -- the same play over a wire that went on
-abbrev pub seen_over : {L : Type 0} → Stage L → Wired → Playing
+abbrev pub seen_over : {L F : Type 0} → Stage L F → Wired → Playing
 seen_over p wire = seen (record p { wire = wire })
 
-pub reads_unread : {L : Type 0} → (p : Stage L) (wire : Wired) → IsUnread p.wire wire → ReadsNothing (seen p) (seen_over p wire)
+pub reads_unread : {L F : Type 0} → (p : Stage L F) (wire : Wired) → IsUnread p.wire wire → ReadsNothing (seen p) (seen_over p wire)
 reads_unread p wire unread = record {
   input = unread.input;
-  lent = ap {B = Lent} (λ (link : GName). record { machine = p.machine.ghost_name; link = link }) unread.link;
+  lent = ap {B = Lent} (λ (link : GName). record { machine = p.machine.ghost_name; link = link; files = p.file.files.ghost_name; name = p.file.name.now }) unread.link;
 }
 
 -- ---- one write after another
 
 -- no frame was handed out, and all that was unsent was written
-pub writes_first : (old new : Playing) → play_of new ≡ play_of old → Writes old.output new.output old.unsent → new.unsent ≡ [] →
+pub writes_first : (old new : Playing) → so_far new ≡ so_far old → Writes old.output new.output old.unsent → new.unsent ≡ [] →
     Writing old new
 writes_first old new same writes none = record {
   frames = [];
-  hands = ap output_of same ∙ sym (append-nil (output_of (play_of old)));
+  hands = ap output_of same ∙ sym (append-nil (output_of (so_far old)));
   sent = old.unsent;
   split = ap (λ bytes. old.unsent ++ bytes) (sym none);
   written = writes;
 }
 
 -- or nothing was, and what was unsent still is
-pub writing_none : (old new : Playing) → output_of (play_of new) ≡ output_of (play_of old) → OnlyPlays old new → Writing old new
+pub writing_none : (old new : Playing) → output_of (so_far new) ≡ output_of (so_far old) → OnlyPlays old new → Writing old new
 writing_none old new same only = record {
   frames = [];
-  hands = same ∙ sym (append-nil (output_of (play_of old)));
+  hands = same ∙ sym (append-nil (output_of (so_far old)));
   sent = [];
   split = append-nil old.unsent ∙ sym only.unsent;
   written = subst (λ (out : Output). Writes old.output out []) (sym only.output) (writes_nothing old.output);
@@ -101,13 +103,13 @@ split_both unsent frames sent left further later last first then =
 pub writing_then : (old mid new : Playing) → Writing old mid → Writing mid new → Writing old new
 writing_then old mid new first then = record {
   frames = first.frames ++ then.frames;
-  hands = then.hands ∙ ap (λ xs. xs ++ then.frames) first.hands ∙ append_assoc (output_of (play_of old)) first.frames then.frames;
+  hands = then.hands ∙ ap (λ xs. xs ++ then.frames) first.hands ∙ append_assoc (output_of (so_far old)) first.frames then.frames;
   sent = first.sent ++ then.sent;
   split = split_both old.unsent first.frames first.sent mid.unsent then.frames then.sent new.unsent first.split then.split;
   written = writes_both old.output mid.output new.output first.sent then.sent first.written then.written;
 }
 
-fails_later : (point : List ℕ → Play → Type 0) (old mid new : Playing) → Writing old mid → Fails point mid new → Fails point old new
+fails_later : (point : List ℕ → Playing → Type 0) (old mid new : Playing) → Writing old mid → Fails point mid new → Fails point old new
 fails_later point old mid new first then = record {
   mid = then.mid;
   unsent = then.unsent;
@@ -117,7 +119,7 @@ fails_later point old mid new first then = record {
 }
 
 -- a step, and then one that wrote this
-pub sends_later : {A : Type 0} → (point : List ℕ → Play → Type 0) (old mid new : Playing) (result : Result A Stop) → Writing old mid →
+pub sends_later : {A : Type 0} → (point : List ℕ → Playing → Type 0) (old mid new : Playing) (result : Result A Stop) → Writing old mid →
     Sends point mid new result → Sends point old new result
 sends_later point old mid new (Ok done) first then = writing_then old mid new first then
 sends_later point old mid new (Err (Over end)) first then = writing_then old mid new first then
@@ -125,15 +127,15 @@ sends_later point old mid new (Err OutOfMemory) first then = writing_then old mi
 sends_later point old mid new (Err WriteFault) first then = fails_later point old mid new first then
 
 -- a step that hands out nothing, and stopped
-pub sends_none : (point : List ℕ → Play → Type 0) (old new : Playing) (stop : Stop) → output_of (play_of new) ≡ output_of (play_of old) →
+pub sends_none : (point : List ℕ → Playing → Type 0) (old new : Playing) (stop : Stop) → output_of (so_far new) ≡ output_of (so_far old) →
     OnlyPlays old new → stop ≢ WriteFault → Sends {A = Unit {0}} point old new (Err stop)
 sends_none point old new (Over end) same only unwritten = writing_none old new same only
 sends_none point old new OutOfMemory same only unwritten = writing_none old new same only
 sends_none point old new WriteFault same only unwritten = absurd (unwritten refl)
 
 -- an act that was not entered
-pub sends_entered : (point : List ℕ → Play → Type 0) (act : Act) (old new : Playing) (stop : Stop) →
-    Enters act (play_of old) (play_of new) (Err stop) → OnlyPlays old new → Sends {A = Unit {0}} point old new (Err stop)
+pub sends_entered : (point : List ℕ → Playing → Type 0) (act : Act) (old new : Playing) (stop : Stop) →
+    Enters act (so_far old) (so_far new) (Err stop) → OnlyPlays old new → Sends {A = Unit {0}} point old new (Err stop)
 sends_entered point act old new (Over end) enters only = writing_none old new (ap output_of enters.0) only
 sends_entered point act old new OutOfMemory enters only = writing_none old new (ap output_of enters) only
 sends_entered point act old new WriteFault enters only = absurd enters
@@ -146,8 +148,8 @@ none_entered act old new None none enters = ap output_of enters.same
 none_entered act old new (Some answer) none enters = absurd (none answer refl)
 
 -- a write failed at such a point, which is one of these too
-pub sends_point : (point wider : List ℕ → Play → Type 0) (old new : Playing) (stop : Stop) →
-    ((bytes : List ℕ) → point bytes (play_of new) → wider bytes (play_of new)) → Sends {A = Unit {0}} point old new (Err stop) →
+pub sends_point : (point wider : List ℕ → Playing → Type 0) (old new : Playing) (stop : Stop) →
+    ((bytes : List ℕ) → point bytes new → wider bytes new) → Sends {A = Unit {0}} point old new (Err stop) →
     Sends {A = Unit {0}} wider old new (Err stop)
 sends_point point wider old new (Over end) is_wider sends = sends
 sends_point point wider old new OutOfMemory is_wider sends = sends
@@ -162,12 +164,13 @@ sends_point point wider old new WriteFault is_wider sends = record {
 -- ---- the closing
 
 -- what is unsent before the closing could not be written
-pub sends_before_close : (old mid new : Playing) (stop : Stop) → Writing old mid → play_of mid ≡ after_input_end (play_of old) →
-    play_of new ≡ play_of mid → Clears {A = Unit {0}} mid.output new.output mid.unsent new.unsent (Err stop) →
-    Sends {A = Unit {0}} (MayClose (play_of old)) old new (Err stop)
-sends_before_close old mid new (Over end) writing is same clears = absurd clears
-sends_before_close old mid new OutOfMemory writing is same clears = absurd clears
-sends_before_close old mid new WriteFault writing is same clears = record {
+pub sends_before_close : (notes : List LoadNote) (old mid new : Playing) (stop : Stop) → Writing old mid →
+    play_of notes mid ≡ after_input_end (play_of notes old) →
+    play_of notes new ≡ play_of notes mid → Clears {A = Unit {0}} mid.output new.output mid.unsent new.unsent (Err stop) →
+    Sends {A = Unit {0}} (MayClose notes old) old new (Err stop)
+sends_before_close notes old mid new (Over end) writing is same clears = absurd clears
+sends_before_close notes old mid new OutOfMemory writing is same clears = absurd clears
+sends_before_close notes old mid new WriteFault writing is same clears = record {
   mid = mid.output;
   unsent = mid.unsent;
   writing = record {
@@ -181,57 +184,59 @@ sends_before_close old mid new WriteFault writing is same clears = record {
   stands = inr (same ∙ is);
 }
 
-pub halts_before_close : (old mid new : Playing) (stop : Stop) → play_of mid ≡ after_input_end (play_of old) →
-    play_of new ≡ play_of mid → Clears {A = Unit {0}} mid.output new.output mid.unsent new.unsent (Err stop) →
-    Halts stop (play_of new) (after_closing (play_of old))
-halts_before_close old mid new (Over end) is same clears = absurd clears
-halts_before_close old mid new OutOfMemory is same clears = absurd clears
-halts_before_close old mid new WriteFault is same clears =
-    subst (λ (p : Play). IsPlayFront p (after_closing (play_of old))) (sym (same ∙ is))
-    ((goes_entered (Close 1 Sent)).begins (after_input_end (play_of old)))
+pub halts_before_close : (notes : List LoadNote) (old mid new : Playing) (stop : Stop) →
+    play_of notes mid ≡ after_input_end (play_of notes old) →
+    play_of notes new ≡ play_of notes mid → Clears {A = Unit {0}} mid.output new.output mid.unsent new.unsent (Err stop) →
+    Halts stop (play_of notes new) (after_closing (play_of notes old))
+halts_before_close notes old mid new (Over end) is same clears = absurd clears
+halts_before_close notes old mid new OutOfMemory is same clears = absurd clears
+halts_before_close notes old mid new WriteFault is same clears =
+    subst (λ (p : Play). IsPlayFront p (after_closing (play_of notes old))) (sym (same ∙ is))
+    ((goes_entered (Close 1 Sent)).begins (after_input_end (play_of notes old)))
 
 -- all was written before it
-pub writing_cleared : (old mid new : Playing) → Writing old mid → play_of new ≡ play_of mid →
+pub writing_cleared : (old mid new : Playing) → Writing old mid → so_far new ≡ so_far mid →
     Clears {A = Unit {0}} mid.output new.output mid.unsent new.unsent (Ok tt) → Writing old new
 writing_cleared old mid new writing same clears =
     writing_then old mid new writing (writes_first mid new same clears.0 clears.1)
 
 -- then the closing was tried
-pub does_closed : (old mid new : Playing) (reply : Option Reply) → play_of mid ≡ after_input_end (play_of old) →
-    Enters (Close 1 Sent) (play_of mid) (play_of new) (Ok reply) → play_of new ≡ after_closing (play_of old)
-does_closed old mid new reply is enters =
-    does_enters (Close 1 Sent) (play_of mid) (play_of new) (Ok reply) refl enters ∙ ap (after_trying_act (Close 1 Sent)) is
+pub does_closed : (notes : List LoadNote) (old mid new : Playing) (reply : Option Reply) →
+    play_of notes mid ≡ after_input_end (play_of notes old) →
+    Enters (Close 1 Sent) (play_of notes mid) (play_of notes new) (Ok reply) → play_of notes new ≡ after_closing (play_of notes old)
+does_closed notes old mid new reply is enters =
+    does_enters (Close 1 Sent) (play_of notes mid) (play_of notes new) (Ok reply) refl enters ∙ ap (after_trying_act (Close 1 Sent)) is
 
-pub halts_closed : (old mid new : Playing) (stop : Stop) → play_of mid ≡ after_input_end (play_of old) →
-    Enters (Close 1 Sent) (play_of mid) (play_of new) (Err stop) → Halts stop (play_of new) (after_closing (play_of old))
-halts_closed old mid new stop is enters =
-    subst (λ (p : Play). Halts stop (play_of new) (after_trying_act (Close 1 Sent) p)) is
-    (does_enters (Close 1 Sent) (play_of mid) (play_of new) (Err stop) refl enters)
+pub halts_closed : (notes : List LoadNote) (old mid new : Playing) (stop : Stop) → play_of notes mid ≡ after_input_end (play_of notes old) →
+    Enters (Close 1 Sent) (play_of notes mid) (play_of notes new) (Err stop) → Halts stop (play_of notes new) (after_closing (play_of notes old))
+halts_closed notes old mid new stop is enters =
+    subst (λ (p : Play). Halts stop (play_of notes new) (after_trying_act (Close 1 Sent) p)) is
+    (does_enters (Close 1 Sent) (play_of notes mid) (play_of notes new) (Err stop) refl enters)
 
 -- ---- frames
 
 -- a frame was put behind what is unsent
-frame_put : (old mid new : Playing) (frame : List ℕ) → Accepts (Take 1) (play_of old) (play_of mid) (reply.Frame frame) →
-    OnlyPlays old mid → play_of new ≡ play_of mid →
+frame_put : (old mid new : Playing) (frame : List ℕ) → Accepts (Take 1) (so_far old) (so_far mid) (reply.Frame frame) →
+    OnlyPlays old mid → so_far new ≡ so_far mid →
     Puts {A = Unit {0}} mid.output new.output mid.unsent new.unsent frame (Ok tt) → Writing old new
 frame_put old mid new frame accepts only same puts = record {
   frames = frame;
-  hands = ap output_of same ∙ take_hands (play_of old) (play_of mid) frame accepts;
+  hands = ap output_of same ∙ take_hands (so_far old) (so_far mid) frame accepts;
   sent = puts.0;
   split = ap (λ bytes. bytes ++ frame) (sym only.unsent) ∙ puts.1;
   written = subst (λ (out : Output). Writes out new.output puts.0) only.output puts.2;
 }
 
 -- or that failed
-frame_fails : (old mid new : Playing) (frame : List ℕ) → Accepts (Take 1) (play_of old) (play_of mid) (reply.Frame frame) →
-    OnlyPlays old mid → play_of new ≡ play_of mid →
-    Puts {A = Unit {0}} mid.output new.output mid.unsent new.unsent frame (Err WriteFault) → Fails HasFilled old new
+frame_fails : (old mid new : Playing) (frame : List ℕ) → Accepts (Take 1) (so_far old) (so_far mid) (reply.Frame frame) →
+    OnlyPlays old mid → so_far new ≡ so_far mid →
+    Puts {A = Unit {0}} mid.output new.output mid.unsent new.unsent frame (Err WriteFault) → Fails HasFilledSo old new
 frame_fails old mid new frame accepts only same puts = record {
   mid = mid.output;
   unsent = mid.unsent ++ frame;
   writing = record {
     frames = frame;
-    hands = ap output_of same ∙ take_hands (play_of old) (play_of mid) frame accepts;
+    hands = ap output_of same ∙ take_hands (so_far old) (so_far mid) frame accepts;
     sent = [];
     split = ap (λ bytes. bytes ++ frame) (sym only.unsent);
     written = subst (λ (out : Output). Writes old.output out []) (sym only.output) (writes_nothing old.output);
@@ -247,24 +252,24 @@ frame_fails old mid new frame accepts only same puts = record {
 }
 
 pub frame_sends : {A : Type 0} → (old mid new : Playing) (frame : List ℕ) (result : Result A Stop) →
-    Accepts (Take 1) (play_of old) (play_of mid) (reply.Frame frame) → OnlyPlays old mid → play_of new ≡ play_of mid →
-    Puts mid.output new.output mid.unsent new.unsent frame result → Sends HasFilled old new result
+    Accepts (Take 1) (so_far old) (so_far mid) (reply.Frame frame) → OnlyPlays old mid → so_far new ≡ so_far mid →
+    Puts mid.output new.output mid.unsent new.unsent frame result → Sends HasFilledSo old new result
 frame_sends old mid new frame (Ok done) accepts only same puts = frame_put old mid new frame accepts only same puts
 frame_sends old mid new frame (Err (Over end)) accepts only same puts = absurd puts
 frame_sends old mid new frame (Err OutOfMemory) accepts only same puts = absurd puts
 frame_sends old mid new frame (Err WriteFault) accepts only same puts = frame_fails old mid new frame accepts only same puts
 
 -- so it was taken, or the play broke off
-pub frame_does : {A : Type 0} → (old mid new : Playing) (frame : List ℕ) (result : Result A Stop) →
-    Accepts (Take 1) (play_of old) (play_of mid) (reply.Frame frame) → play_of new ≡ play_of mid →
-    Puts mid.output new.output mid.unsent new.unsent frame result → Does (after_trying_act (Take 1)) (play_of old) (play_of new) result
-frame_does old mid new frame (Ok done) accepts same puts =
-    same ∙ does_enters (Take 1) (play_of old) (play_of mid) (Ok (Some _)) refl accepts
-frame_does old mid new frame (Err (Over end)) accepts same puts = absurd puts
-frame_does old mid new frame (Err OutOfMemory) accepts same puts = absurd puts
-frame_does old mid new frame (Err WriteFault) accepts same puts =
-    let is = same ∙ does_enters (Take 1) (play_of old) (play_of mid) (Ok (Some _)) refl accepts in
-    subst (λ (p : Play). IsPlayFront (play_of new) p) is (begins_self (play_of new))
+pub frame_does : {A : Type 0} → (notes : List LoadNote) (old mid new : Playing) (frame : List ℕ) (result : Result A Stop) →
+    Accepts (Take 1) (play_of notes old) (play_of notes mid) (reply.Frame frame) → play_of notes new ≡ play_of notes mid →
+    Puts mid.output new.output mid.unsent new.unsent frame result → Does (after_trying_act (Take 1)) (play_of notes old) (play_of notes new) result
+frame_does notes old mid new frame (Ok done) accepts same puts =
+    same ∙ does_enters (Take 1) (play_of notes old) (play_of notes mid) (Ok (Some _)) refl accepts
+frame_does notes old mid new frame (Err (Over end)) accepts same puts = absurd puts
+frame_does notes old mid new frame (Err OutOfMemory) accepts same puts = absurd puts
+frame_does notes old mid new frame (Err WriteFault) accepts same puts =
+    let is = same ∙ does_enters (Take 1) (play_of notes old) (play_of notes mid) (Ok (Some _)) refl accepts in
+    subst (λ (p : Play). IsPlayFront (play_of notes new) p) is (begins_self (play_of notes new))
 
 -- a Take for each frame that waited is to be entered
 pub taken_first : (start : Play) →

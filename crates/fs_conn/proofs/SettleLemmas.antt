@@ -16,69 +16,36 @@ use Rattle.fs_conn.specs.declared.stop.Stop.TheVariants.{Over}
 use Rattle.fs_conn.specs.Play.{Play, switch_of, is_over, with_end, after_trying_act, repeated, after_due_work, next_actor, after_due_step}
 use Rattle.fs_conn.specs.Play.{with_runaway_end_by, with_runaway_end, after_settling, after_waiting_until, after_waiting_once}
 use Rattle.fs_conn.specs.Play.{after_waiting, after_settling_as, after_waiting_as}
-use Rattle.fs_conn.specs.Steps.{Halts, Enters, Works, act_of}
-use Rattle.fs_conn.proofs.PlayLemmas.{goes_stopped, goes_worked_once, goes_all_waited}
+use Rattle.fs_conn.specs.Steps.{Halts, Enters, Works, is_due}
+use Rattle.fs_conn.proofs.PlayLemmas.{goes_stopped, goes_worked_once, goes_all_waited, worked_none}
 use Rattle.fs_conn.proofs.StepLemmas.{halts_on, does_enters, works_enters}
 use Rattle.fs_conn.proofs.RoundLemmas.{repeated_none, repeated_more, round_stops, round_stops_at}
 
 -- ---- what is due
 
-worked_act : (actor : DueActor) (act : Act) (p : Play) → act_of actor ≡ Some act → after_due_work actor p ≡ after_trying_act act p
-worked_act (due.Slot slot) act p is = let same : Work slot ≡ act = cc in ap (λ a. after_trying_act a p) same
-worked_act (due.Dial slot) act p is = let same : Dialed slot false ≡ act = cc in ap (λ a. after_trying_act a p) same
-worked_act (due.Job job) act p is = let same : Job job ≡ act = cc in ap (λ a. after_trying_act a p) same
-worked_act (due.Later moment) act p is = absurd (cc)
-worked_act due.Never act p is = absurd (cc)
-
-pub worked_none : (actor : DueActor) (p : Play) → act_of actor ≡ None → after_due_work actor p ≡ p
-worked_none (due.Slot slot) p is = absurd (cc)
-worked_none (due.Dial slot) p is = absurd (cc)
-worked_none (due.Job job) p is = absurd (cc)
-worked_none (due.Later moment) p is = refl
-worked_none due.Never p is = refl
-
-stopped_none : (actor : DueActor) (p : Play) → act_of actor ≡ None → with_runaway_end_by actor p ≡ p
-stopped_none (due.Slot slot) p is = absurd (cc)
-stopped_none (due.Dial slot) p is = absurd (cc)
-stopped_none (due.Job job) p is = absurd (cc)
+stopped_none : (who : DueActor) (p : Play) → is_due who ≡ false → with_runaway_end_by who p ≡ p
+stopped_none (due.Slot slot) p is = absurd (cc is)
+stopped_none (due.Dial slot) p is = absurd (cc is)
+stopped_none (due.Job number) p is = absurd (cc is)
+stopped_none (due.Load number) p is = absurd (cc is)
 stopped_none (due.Later moment) p is = refl
 stopped_none due.Never p is = refl
 
-stopped_act : (actor : DueActor) (p : Play) → is_some (act_of actor) ≡ true → with_runaway_end_by actor p ≡ with_end (Runaway 100000) p
-stopped_act (due.Slot slot) p is = refl
-stopped_act (due.Dial slot) p is = refl
-stopped_act (due.Job job) p is = refl
-stopped_act (due.Later moment) p is = absurd (cc)
-stopped_act due.Never p is = absurd (cc)
-
--- one that has something to do hands out no frame
-hands_none : (actor : DueActor) (act : Act) (p : Play) → act_of actor ≡ Some act → handed_in 1 act (switch_of p) ≡ []
-hands_none (due.Slot slot) act p is = let same : Work slot ≡ act = cc in ap (λ a. handed_in 1 a (switch_of p)) (sym same)
-hands_none (due.Dial slot) act p is = let same : Dialed slot false ≡ act = cc in ap (λ a. handed_in 1 a (switch_of p)) (sym same)
-hands_none (due.Job job) act p is = let same : Job job ≡ act = cc in ap (λ a. handed_in 1 a (switch_of p)) (sym same)
-hands_none (due.Later moment) act p is = absurd (cc)
-hands_none due.Never act p is = absurd (cc)
-
-pub works_round : (act : Act) (now next : Play) (result : Result (Option Reply) Stop) → act_of (next_actor now) ≡ Some act →
-    Enters act now next result → Works now next
-works_round act now next result is enters = works_enters act now next result (hands_none (next_actor now) act now is) enters
-
-pub round_worked : (act : Act) (now next : Play) (reply : Option Reply) → is_over now ≡ false → act_of (next_actor now) ≡ Some act →
-    Enters act now next (Ok reply) → next ≡ after_due_step now
-round_worked act now next reply goes_on is enters =
-    does_enters act now next (Ok reply) goes_on enters ∙ sym (worked_act (next_actor now) act now is)
+stopped_due : (who : DueActor) (p : Play) → is_due who ≡ true → with_runaway_end_by who p ≡ with_end (Runaway 100000) p
+stopped_due (due.Slot slot) p is = refl
+stopped_due (due.Dial slot) p is = refl
+stopped_due (due.Job number) p is = refl
+stopped_due (due.Load number) p is = refl
+stopped_due (due.Later moment) p is = absurd (cc is)
+stopped_due due.Never p is = absurd (cc is)
 
 -- an option that is nothing else
 pub is_none : {A : Type 0} → (o : Option A) → ((a : A) → o ≡ Some a → ⊥) → o ≡ None
 is_none None not_some = refl
 is_none (Some a) not_some = absurd (not_some a refl)
 
-pub is_not_some : (o : Option Act) → is_some o ≡ false → o ≡ None
-is_not_some None is = refl
-is_not_some (Some act) is = absurd (cc)
-
 -- nothing is due any more
-pub settled_rest : (left : ℕ) (start now : Play) → act_of (next_actor now) ≡ None →
+pub settled_rest : (left : ℕ) (start now : Play) → is_due (next_actor now) ≡ false →
     repeated left after_due_step now ≡ repeated 100000 after_due_step start → now ≡ after_settling start
 unfolding after_settling_as
 settled_rest left start now none reaches =
@@ -86,25 +53,21 @@ settled_rest left start now none reaches =
     (repeated_none left after_due_step now (worked_none (next_actor now) now none)) ∙ stopped_none (next_actor now) now none)
 
 -- something is due still
-pub settled_runs : (start now : Play) → is_over now ≡ false → is_some (act_of (next_actor now)) ≡ true →
+pub settled_runs : (start now : Play) → is_over now ≡ false → is_due (next_actor now) ≡ true →
     now ≡ repeated 100000 after_due_step start → Halts (Over (Runaway 100000)) now (after_settling start)
 unfolding after_settling_as
 settled_runs start now goes_on is reaches = (
   refl,
-  ap with_runaway_end (sym reaches) ∙ stopped_act (next_actor now) now is
+  ap with_runaway_end (sym reaches) ∙ stopped_due (next_actor now) now is
       ∙ ap (λ b. cond b now (record now { end = Some (Runaway 100000) })) goes_on,
 )
 
--- an entry was not made
-pub settled_stops : (done : ℕ) (act : Act) (start now next : Play) (stop : Stop) → is_over now ≡ false →
-    act_of (next_actor now) ≡ Some act → done < 100000 →
-    repeated (100000 - done) after_due_step now ≡ repeated 100000 after_due_step start → Enters act now next (Err stop) →
+-- what was due was not done
+pub settled_stops : (done : ℕ) (start now next : Play) (stop : Stop) → done < 100000 →
+    repeated (100000 - done) after_due_step now ≡ repeated 100000 after_due_step start → Halts stop next (after_due_step now) →
     Halts stop next (after_settling start)
 unfolding after_settling_as
-settled_stops done act start now next stop goes_on is some reaches enters =
-    let halts =
-    subst (λ (p : Play). Halts stop next p) (sym (worked_act (next_actor now) act now is))
-    (does_enters act now next (Err stop) goes_on enters) in
+settled_stops done start now next stop some reaches halts =
     halts_on with_runaway_end goes_stopped stop next (repeated 100000 after_due_step start)
     (round_stops_at 100000 done after_due_step goes_worked_once now next (repeated 100000 after_due_step start) stop some reaches halts)
 
@@ -134,14 +97,15 @@ waited_rest start now awaits goes_on owed =
     sym (repeated_none awaits.rounds after_waiting_once now same) ∙ awaits.reaches
 
 -- somebody has something to do while a reply is owed, and where nobody has it now it is later
-pub never_stuck : (now : Play) → AreOwed (switch_of now) → owes (switch_of now) 1 ≡ true → act_of (next_actor now) ≡ None →
+pub never_stuck : (now : Play) → AreOwed (switch_of now) → owes (switch_of now) 1 ≡ true → is_due (next_actor now) ≡ false →
     ((moment : ℕ) → next_actor now ≡ due.Later moment → ⊥) → ⊥
 never_stuck now sound owed idle never = by (next_actor now) refl
   where
     by : (actor : DueActor) → next_actor now ≡ actor → ⊥
-    by (due.Slot slot) is = let none : act_of (due.Slot slot) ≡ None = ap act_of (sym is) ∙ idle in cc
-    by (due.Dial slot) is = let none : act_of (due.Dial slot) ≡ None = ap act_of (sym is) ∙ idle in cc
-    by (due.Job job) is = let none : act_of (due.Job job) ≡ None = ap act_of (sym is) ∙ idle in cc
+    by (due.Slot slot) is = let none : is_due (due.Slot slot) ≡ false = ap is_due (sym is) ∙ idle in cc
+    by (due.Dial slot) is = let none : is_due (due.Dial slot) ≡ false = ap is_due (sym is) ∙ idle in cc
+    by (due.Job number) is = let none : is_due (due.Job number) ≡ false = ap is_due (sym is) ∙ idle in cc
+    by (due.Load number) is = let none : is_due (due.Load number) ≡ false = ap is_due (sym is) ∙ idle in cc
     by (due.Later moment) is = never moment is
     by due.Never is = owed_laws.goes_on (switch_of now) 1 now.clock sound owed is
 

@@ -1,5 +1,5 @@
 -- What entries, looks and writes do to a conversation that stands.
-use Rattle.std.proofs.Common.{◌≡◌, ◌≢◌, ◌⊎◌, inl, inr, ℕ, ◌||◌, Bool, true, false, List, [], ◌∷◌, ◌++◌, length, Option, Some, None}
+use Rattle.std.proofs.Common.{◌≡◌, ◌≢◌, ◌⊎◌, inl, inr, ℕ, ◌||◌, Bool, true, false, List, [], ◌∷◌, ◌++◌, length, Option, Some, None, cond}
 use Rattle.std.proofs.Common.{Result, Ok, Err, refl, ap, sym, subst, ◌∙◌, append_assoc, append-nil}
 use Rattle.std.proofs.lemmas.Bool.{eq-eqb}
 use Rattle.std.proofs.lemmas.List.Folds.{concat-append}
@@ -12,7 +12,7 @@ use Rattle.fs_ports.proofs.Sides.{writes_both, stopped_later, stopped_sooner}
 use Rattle.fs_frame.specs.Block.{IsBlock}
 use Rattle.fs_book.specs.Opened.{Quiet}
 use Rattle.fs_book.proofs.Lists.{prefix_self, prefix_trans, prefix_get, last_get}
-use Rattle.fs_state.specs.Switch.{Switch, empty, is_full}
+use Rattle.fs_state.specs.Switch.{Switch, empty, is_full, is_full_for_load}
 use Rattle.fs_state.specs.declared.conn.Parting.{Parting}
 use Rattle.fs_state.specs.declared.conn.Parting.TheVariants as partings
 use Rattle.fs_machine.specs.declared.entry.Entry.{Entry}
@@ -41,9 +41,11 @@ use Rattle.fs_conn.specs.declared.end.End.TheVariants as ends
 use Rattle.fs_conn.specs.declared.stop.Stop.{Stop}
 use Rattle.fs_conn.specs.declared.stop.Stop.TheVariants.{Over, OutOfMemory, WriteFault}
 use Rattle.fs_conn.specs.Play.{end_by}
+use Rattle.fs_conn.proofs.NoteLemmas.{owned_other}
 use Rattle.fs_conn.specs.Owning.{entry_at, Entered, Refused}
 use Rattle.fs_conn.specs.Talks.{Point, point, bytes_given, bytes_handed, MadeAt, Gains, FrontWritten, PartedIn, FullIn, PartedEnd, EarlyEnd}
-use Rattle.fs_conn.specs.Talks.{IsGivenUp, end_unclosed, StopDid, Idles, Base, Holds, HasEnded, HasStopped, GivesUp, Tries, Takes, Closes, Departs, Hangs}
+use Rattle.fs_conn.specs.Talks.{IsGivenUp, end_unclosed, StopDid, Idles, Base, Holds, HasEnded, HasStopped, GivesUp, Tries, Takes, Closes}
+use Rattle.fs_conn.specs.Talks.{Departs, Hangs}
 
 -- ---- fronts of journals
 
@@ -273,10 +275,10 @@ module _ (may : ℕ → Type 0) (config : Configuration) (conn : ℕ) where
   stops_taken from log log' mine mine' in1 out1 rest WriteFault tried h = absurd tried
 
   -- what an entry that was refused came to
-  pub refused_full : (log log' : List Entry) (mine mine' : List ℕ) (act : Act) (cost limit : ℕ) →
+  pub refused_full : (log log' : List Entry) (mine mine' : List ℕ) (act : Act) (cost limit : ℕ) → actor_of act ≡ Some conn →
       Refused config conn log mine log' mine' act (refusal.JournalFull cost limit)
       → Idles config conn log mine log' mine' × FullIn config log' cost limit
-  refused_full log log' mine mine' act cost limit r =
+  refused_full log log' mine mine' act cost limit named r =
       let full =
       full_refused (state_after config log') (entry_at r.moment act) cost limit
       (r.refuses.cause (λ same. cc)) in (
@@ -284,7 +286,12 @@ module _ (may : ℕ → Type 0) (config : Configuration) (conn : ℕ) where
         record {
           before = log';
           front = prefix_self log';
-          full = record { full = full.0; cost_is = full.1; limit_is = full.2 };
+          full = record {
+            full = sym (ap (λ load. cond load (is_full_for_load (state_after config log')) (is_full (state_after config log')))
+                (owned_other act conn named)) ∙ full.0;
+            cost_is = full.1;
+            limit_is = full.2;
+          };
         },
       )
 

@@ -10,17 +10,18 @@ use Rattle.fs_cmd.specs.Commands as command
 use Rattle.fs_cmd.specs.Commands.{Command as Read, command_of}
 use Rattle.fs_state.specs.declared.conn.Parting.{Parting}
 use Rattle.fs_state.specs.declared.conn.Parting.TheVariants as parting
-use Rattle.fs_state.specs.Switch.{Switch, empty, is_full}
+use Rattle.fs_state.specs.Switch.{Switch, empty, is_full, is_full_for_load}
 use Rattle.fs_machine.specs.declared.entry.Entry.{Entry}
 use Rattle.fs_machine.specs.declared.entry.Act.{Act}
-use Rattle.fs_machine.specs.declared.entry.Act.TheVariants.{Command, Dialed, Work, Job}
+use Rattle.fs_machine.specs.declared.entry.Act.TheVariants.{Command, Dialed, Work, Job, Loaded}
+use Rattle.fs_machine.specs.declared.due.DueActor.TheVariants as actor
 use Rattle.fs_machine.specs.Questions.{parting_at}
 use Rattle.fs_machine.specs.Runs.{run_from}
 use Rattle.fs_machine.specs.Frames.{commands_of}
 use Rattle.fs_conn.specs.declared.end.End.{End}
 use Rattle.fs_conn.specs.declared.end.End.TheVariants as ends
-use Rattle.fs_conn.specs.Play.{Play, switch_of, next_actor}
-use Rattle.fs_conn.specs.Steps.{act_of}
+use Rattle.fs_conn.specs.Play.{Play, switch_of, next_actor, next_note}
+use Rattle.fs_conn.specs.Steps.{is_due}
 
 -- ---- by its last command
 
@@ -105,11 +106,27 @@ pub record IsFullAt (cost limit : ℕ) (s : Switch) : Type 0 where
   pub cost_is : cost ≡ s.cost
   pub limit_is : limit ≡ s.settings.journal_limit
 
+-- the turn of a job that waits for a load has come, and the journal has no room for one, at this cost and limit
+pub record IsFullForLoadAt (cost limit : ℕ) (p : Play) : Type 0 where
+  pub job : ℕ
+  pub turn : next_actor p ≡ actor.Load job
+  pub full : is_full_for_load (switch_of p) ≡ true
+  pub cost_is : cost ≡ (switch_of p).cost
+  pub limit_is : limit ≡ (switch_of p).settings.journal_limit
+
+-- the turn of such a job has come, the journal has room for a load, and no note of one is left
+pub record LacksNote (p : Play) : Type 0 where
+  pub job : ℕ
+  pub turn : next_actor p ≡ actor.Load job
+  pub room : is_full_for_load (switch_of p) ≡ false
+  pub none : next_note p ≡ None
+
 -- what is done by whoever has something to do
 abbrev pub IsWork : Act → Type 0
 IsWork (Work slot) = Unit {0}
 IsWork (Dialed slot linked) = Unit {0}
 IsWork (Job number) = Unit {0}
+IsWork (Loaded number note) = Unit {0}
 IsWork _ = ⊥
 
 -- at this moment
@@ -128,7 +145,7 @@ pub record EndsInWork (count moment : ℕ) (journal : List Entry) : Type 0 where
 -- configuration keeps
 pub record RanAway (count : ℕ) (p : Play) : Type 0 where
   pub many : count ≡ 100000
-  pub due : act_of (next_actor p) ≢ None
+  pub due : is_due (next_actor p) ≡ true
   pub worked : IsWithin p.config → EndsInWork count p.clock p.journal
 
 -- ---- the cause of each end
@@ -143,6 +160,6 @@ HasCause ends.ReadFault p fault read_failed = (fault ≡ None) × (read_failed �
 HasCause ends.WriteFault p fault read_failed = ⊥
 HasCause (ends.TooLong len) p fault read_failed = fault ≡ Some (faults.TooLong len)
 HasCause ends.BadLength p fault read_failed = fault ≡ Some faults.BadLength
-HasCause (ends.JournalFull cost limit) p fault read_failed = IsFullAt cost limit (switch_of p)
-HasCause ends.Memory p fault read_failed = ⊥
+HasCause (ends.JournalFull cost limit) p fault read_failed = IsFullAt cost limit (switch_of p) ⊎ IsFullForLoadAt cost limit p
+HasCause ends.Memory p fault read_failed = LacksNote p
 HasCause (ends.Runaway count) p fault read_failed = RanAway count p

@@ -1,6 +1,8 @@
 pub mod Play
 pub mod Steps
 pub mod Wired
+pub mod Filed
+pub mod Loads
 pub mod Playing
 pub mod Turns
 pub mod Ends

@@ -1,5 +1,7 @@
 -- What a played connection is: its journal, what is written to it, and how it ends.
-use Rattle.std.specs.Prelude.{ℕ, zero, suc, ◌^◌, Bool, false, List, [], ◌∷◌, ◌++◌, length, Option, None, Some, is_some, not, ◌&&◌, if◌then◌else◌}
+use Rattle.std.specs.Prelude.{ℕ, zero, suc, ◌^◌, Bool, false, List, [], ◌∷◌, ◌++◌, length, slice_get, Option, None, Some, is_some, not}
+use Rattle.std.specs.Prelude.{◌&&◌}
+use Rattle.std.specs.Prelude.{if◌then◌else◌}
 use Rattle.std.specs.List.{concat}
 use Rattle.fs_doc.specs.Reading.{Configuration}
 use Rattle.fs_frame.specs.Block.{fault_of}
@@ -8,34 +10,38 @@ use Rattle.fs_frame.specs.declared.fault.Fault.{Fault}
 use Rattle.fs_frame.specs.declared.fault.Fault.TheVariants as faults
 use Rattle.fs_state.specs.declared.conn.Parting.{Parting}
 use Rattle.fs_state.specs.declared.conn.Parting.TheVariants as parting
-use Rattle.fs_state.specs.Switch.{Switch, empty, waiting_for, is_full}
+use Rattle.fs_state.specs.Switch.{Switch, empty, waiting_for, is_full_for_load}
 use Rattle.fs_machine.specs.declared.due.DueActor.{DueActor}
 use Rattle.fs_machine.specs.declared.due.DueActor.TheVariants as actor
 use Rattle.fs_machine.specs.declared.entry.Entry.{Entry}
 use Rattle.fs_machine.specs.declared.entry.Act.{Act}
-use Rattle.fs_machine.specs.declared.entry.Act.TheVariants.{Arrive, Command, Take, Close, Dialed, Work, Job}
+use Rattle.fs_machine.specs.declared.entry.Act.TheVariants.{Arrive, Command, Take, Close, Dialed, Work, Job, Loaded, Halt}
 use Rattle.fs_machine.specs.declared.entry.Closing.TheVariants.{EndOfInput, Sent}
+use Rattle.fs_machine.specs.declared.note.LoadNote.{LoadNote}
 use Rattle.fs_machine.specs.declared.refusal.Refusal.{Refusal}
 use Rattle.fs_machine.specs.declared.refusal.Refusal.TheVariants as refusal
 use Rattle.fs_machine.specs.Due.{next_due}
-use Rattle.fs_machine.specs.Step.{refusal_of, reads}
+use Rattle.fs_machine.specs.Step.{refusal_of, reads, is_full_for}
 use Rattle.fs_machine.specs.Runs.{run_from}
 use Rattle.fs_machine.specs.Frames.{handed_from}
 use Rattle.fs_machine.specs.Connections.{phase_at}
 use Rattle.fs_machine.specs.Questions.{parting_at, owes}
 use Rattle.fs_conn.specs.declared.end.End.{End}
-use Rattle.fs_conn.specs.declared.end.End.TheVariants.{Exit, AuthRefused, Stopped, Eof, ReadFault, TooLong, BadLength, JournalFull, Runaway}
+use Rattle.fs_conn.specs.declared.end.End.TheVariants.{Exit, AuthRefused, Stopped, Eof, ReadFault, TooLong, BadLength, JournalFull, Memory}
+use Rattle.fs_conn.specs.declared.end.End.TheVariants.{Runaway}
 
--- a play so far: what the switch was configured by, its journal, the clock, and how the play ended, if it did
+-- a play so far: what the switch was configured by, the notes of all loads that come in it, its journal, the clock, and how the play ended,
+-- if it did
 pub record Play : Type 0 where
   pub config : Configuration
+  pub notes : List LoadNote
   pub journal : List Entry
   pub clock : ℕ
   pub end : Option End
 
 -- nothing is entered yet
-abbrev pub new_play : Configuration → Play
-new_play config = record { config = config; journal = []; clock = 0; end = None }
+abbrev pub new_play : Configuration → List LoadNote → Play
+new_play config notes = record { config = config; notes = notes; journal = []; clock = 0; end = None }
 
 -- the switch that it has come to
 abbrev pub switch_of : Play → Switch
@@ -57,6 +63,29 @@ is_over p = is_some p.end
 abbrev pub with_end : End → Play → Play
 with_end end p = if is_over p then p else record p { end = Some end }
 
+-- ---- loads
+
+-- the note of a load, where an act notes one
+abbrev pub note_in : Act → List LoadNote
+note_in Arrive = []
+note_in (Command conn block) = []
+note_in (Take conn) = []
+note_in (Close conn how) = []
+note_in (Dialed slot linked) = []
+note_in (Work slot) = []
+note_in (Job number) = []
+note_in (Loaded number note) = note ∷ []
+note_in Halt = []
+
+-- the notes of the loads in a journal, in their order
+abbrev pub noted : List Entry → List LoadNote
+noted [] = []
+noted (entry ∷ entries) = note_in entry.act ++ noted entries
+
+-- the note of the load that comes next, if one is left
+abbrev pub next_note : Play → Option LoadNote
+next_note p = slice_get p.notes (length (noted p.journal))
+
 -- ---- entries
 
 -- how an entry is judged that comes while a play is not over
@@ -73,10 +102,14 @@ after_judging (Some _) entry p = p
 abbrev pub by_refusal : Judge
 by_refusal entry p = after_judging (refusal_of (switch_of p) entry) entry p
 
--- by the room in the journal alone: each entry stands behind the others until the journal is full, which ends all
+-- that its journal is full
+abbrev pub end_full : Switch → End
+end_full s = JournalFull s.cost s.settings.journal_limit
+
+-- by the room in the journal alone: each entry stands behind the others until the journal is full for it, which ends all
 abbrev pub by_room : Judge
 by_room entry p =
-    if is_full (switch_of p) then record p { end = Some (JournalFull (switch_of p).cost (switch_of p).settings.journal_limit) }
+    if is_full_for entry.act (switch_of p) then record p { end = Some (end_full (switch_of p)) }
     else record p { journal = p.journal ++ entry ∷ [] }
 
 -- an entry is tried, unless the play is over
@@ -94,11 +127,21 @@ unfoldable pub repeated : {A : Type 0} → ℕ → (A → A) → A → A
 repeated zero act a = a
 repeated (suc n) act a = repeated n act (act a)
 
+-- how a play ends in which no note is left for a load that is due: by its journal, where that has no room for one, else for want of memory
+abbrev pub end_unnoted : Switch → End
+end_unnoted s = if is_full_for_load s then end_full s else Memory
+
+-- a load is noted for the job of a number, as long as a note is left
+abbrev pub after_loading_as : Judge → ℕ → Option LoadNote → Play → Play
+after_loading_as judge number (Some note) p = after_trying_act_as judge (Loaded number note) p
+after_loading_as judge number None p = with_end (end_unnoted (switch_of p)) p
+
 -- the least slot, or else the least job, that has something to do does it; nobody can be dialed
 abbrev pub after_due_work_as : Judge → DueActor → Play → Play
 after_due_work_as judge (actor.Slot slot) p = after_trying_act_as judge (Work slot) p
 after_due_work_as judge (actor.Dial slot) p = after_trying_act_as judge (Dialed slot false) p
-after_due_work_as judge (actor.Job job) p = after_trying_act_as judge (Job job) p
+after_due_work_as judge (actor.Job number) p = after_trying_act_as judge (Job number) p
+after_due_work_as judge (actor.Load number) p = after_loading_as judge number (next_note p) p
 after_due_work_as judge (actor.Later moment) p = p
 after_due_work_as judge actor.Never p = p
 
@@ -114,7 +157,8 @@ after_due_step_as judge p = after_due_work_as judge (next_actor p) p
 abbrev pub with_runaway_end_by : DueActor → Play → Play
 with_runaway_end_by (actor.Slot slot) p = with_end (Runaway 100000) p
 with_runaway_end_by (actor.Dial slot) p = with_end (Runaway 100000) p
-with_runaway_end_by (actor.Job job) p = with_end (Runaway 100000) p
+with_runaway_end_by (actor.Job number) p = with_end (Runaway 100000) p
+with_runaway_end_by (actor.Load number) p = with_end (Runaway 100000) p
 with_runaway_end_by (actor.Later moment) p = p
 with_runaway_end_by actor.Never p = p
 
@@ -179,8 +223,8 @@ after_commands_as judge p [] = p
 after_commands_as judge p (block ∷ blocks) = after_commands_as judge (after_command_as judge p block) blocks
 
 -- the connection has come
-abbrev pub after_opening_as : Judge → Configuration → Play
-after_opening_as judge config = after_act_as judge Arrive (new_play config)
+abbrev pub after_opening_as : Judge → Configuration → List LoadNote → Play
+after_opening_as judge config notes = after_act_as judge Arrive (new_play config notes)
 
 -- its input has ended
 abbrev pub after_input_end_as : Judge → Play → Play
@@ -217,13 +261,14 @@ end_behind None (Some fault) read_failed = end_for fault
 end_behind None None read_failed = if read_failed then ReadFault else Eof
 
 -- the play of these bytes up to the last command
-abbrev pub after_conversing_as : Judge → Configuration → List ℕ → Play
-after_conversing_as judge config input = after_commands_as judge (after_opening_as judge config) (blocks_of input)
+abbrev pub after_conversing_as : Judge → Configuration → List ℕ → List LoadNote → Play
+after_conversing_as judge config input notes = after_commands_as judge (after_opening_as judge config notes) (blocks_of input)
 
--- what these bytes of a link play over a switch of this configuration, where the reading ended or failed behind them
-unfoldable pub played_as : Judge → Configuration → List ℕ → Bool → Play
-played_as judge config input read_failed =
-    let p = after_conversing_as judge config input in
+-- what these bytes of a link play over a switch of this configuration, where the reading ended or failed behind them, and these are the notes
+-- of the loads
+unfoldable pub played_as : Judge → Configuration → List ℕ → Bool → List LoadNote → Play
+played_as judge config input read_failed notes =
+    let p = after_conversing_as judge config input notes in
     with_end (end_behind (farewell p) (fault_of (rest_of input)) read_failed) (after_closing_as judge p)
 
 -- ---- the play of a machine, which judges each entry by what it refuses it for
@@ -235,6 +280,10 @@ after_trying = after_trying_as by_refusal
 -- an act is tried at the clock's moment
 abbrev pub after_trying_act : Act → Play → Play
 after_trying_act = after_trying_act_as by_refusal
+
+-- a load is noted for the job of a number, as long as a note is left
+abbrev pub after_loading : ℕ → Option LoadNote → Play → Play
+after_loading = after_loading_as by_refusal
 
 -- the one that has something to do does it
 abbrev pub after_due_work : DueActor → Play → Play
@@ -281,7 +330,7 @@ abbrev pub after_commands : Play → List (List ℕ) → Play
 after_commands = after_commands_as by_refusal
 
 -- the connection has come
-abbrev pub after_opening : Configuration → Play
+abbrev pub after_opening : Configuration → List LoadNote → Play
 after_opening = after_opening_as by_refusal
 
 -- its input has ended
@@ -293,9 +342,9 @@ abbrev pub after_closing : Play → Play
 after_closing = after_closing_as by_refusal
 
 -- the play of these bytes up to the last command
-abbrev pub after_conversing : Configuration → List ℕ → Play
+abbrev pub after_conversing : Configuration → List ℕ → List LoadNote → Play
 after_conversing = after_conversing_as by_refusal
 
 -- what these bytes of a link play, where the reading ended or failed behind them
-abbrev pub played : Configuration → List ℕ → Bool → Play
+abbrev pub played : Configuration → List ℕ → Bool → List LoadNote → Play
 played = played_as by_refusal

@@ -10,12 +10,12 @@ use Rattle.fs_machine.specs.declared.due.DueActor.{DueActor}
 use Rattle.fs_machine.specs.declared.due.DueActor.TheVariants as actor
 use Rattle.fs_machine.specs.declared.entry.Entry.{Entry}
 use Rattle.fs_machine.specs.declared.entry.Act.{Act}
-use Rattle.fs_machine.specs.declared.entry.Act.TheVariants.{Dialed, Work, Job}
 use Rattle.fs_machine.specs.declared.reply.Reply.{Reply}
 use Rattle.fs_machine.specs.Step.{step, refusal_of}
 use Rattle.fs_machine.specs.Frames.{handed_in}
 use Rattle.fs_conn.specs.declared.end.End.{End}
-use Rattle.fs_conn.specs.declared.end.End.TheVariants.{Exit, AuthRefused, Stopped as ends_by_stop, Eof, ReadFault, WriteFault as ends_by_write}
+use Rattle.fs_conn.specs.declared.end.End.TheVariants.{Exit, AuthRefused, Stopped as ends_by_stop, Eof, ReadFault}
+use Rattle.fs_conn.specs.declared.end.End.TheVariants.{WriteFault as ends_by_write}
 use Rattle.fs_conn.specs.declared.end.End.TheVariants.{TooLong, BadLength, JournalFull, Memory, Runaway}
 use Rattle.fs_conn.specs.declared.stop.Stop.{Stop}
 use Rattle.fs_conn.specs.declared.stop.Stop.TheVariants.{Over, OutOfMemory, WriteFault}
@@ -35,7 +35,7 @@ pub record IsPlayFront (p whole : Play) : Type 0 where
 
 -- ---- how a step stops
 
--- an end that comes before that of the connection
+-- an end that comes before that of the connection; for want of memory no play ends but one in which no note is left for a load
 abbrev pub is_early : End → Bool
 is_early (JournalFull cost limit) = true
 is_early (Runaway count) = true
@@ -47,7 +47,7 @@ is_early ReadFault = false
 is_early ends_by_write = false
 is_early (TooLong len) = false
 is_early BadLength = false
-is_early Memory = false
+is_early Memory = true
 
 -- what was to become the whole play came to its end, or broke off behind a front of it
 abbrev pub Halts : Stop → Play → Play → Type 0
@@ -92,13 +92,14 @@ Enters act old new (Err (Over end)) = (new ≡ old) × Halts (Over end) new (aft
 Enters act old new (Err OutOfMemory) = new ≡ old
 Enters act old new (Err WriteFault) = ⊥
 
--- what is to be entered for one that has something to do
-abbrev pub act_of : DueActor → Option Act
-act_of (actor.Slot slot) = Some (Work slot)
-act_of (actor.Dial slot) = Some (Dialed slot false)
-act_of (actor.Job job) = Some (Job job)
-act_of (actor.Later moment) = None
-act_of actor.Never = None
+-- one has something to do
+abbrev pub is_due : DueActor → Bool
+is_due (actor.Slot slot) = true
+is_due (actor.Dial slot) = true
+is_due (actor.Job number) = true
+is_due (actor.Load number) = true
+is_due (actor.Later moment) = false
+is_due actor.Never = false
 
 -- a step that writes nothing did not stop by a write
 abbrev pub IsUnwritten : {A : Type 0} → Result A Stop → Type 0

@@ -12,6 +12,7 @@ use Rattle.fs_frame.specs.Stream.{Stream}
 use Rattle.fs_machine.specs.declared.entry.Entry.{Entry}
 use Rattle.fs_machine.specs.declared.entry.Act.TheVariants.{Close}
 use Rattle.fs_machine.specs.declared.entry.Closing.TheVariants.{Failed}
+use Rattle.fs_machine.specs.declared.note.LoadNote.{LoadNote}
 use Rattle.fs_machine.specs.declared.refusal.Refusal.{Refusal}
 use Rattle.fs_machine.specs.Step.{refusal_of}
 use Rattle.fs_conn.specs.declared.end.End.{End}
@@ -33,57 +34,60 @@ pub record HasRead (in0 in1 : Input) (input : List ℕ) (read_failed : Bool) : T
 -- ---- writes
 
 -- the last bytes of the input came with one read, before which what those before them had come to was written
-pub record IsPrompt (config : Configuration) (input sent : List ℕ) : Type 0 where
+pub record IsPrompt (config : Configuration) (notes : List LoadNote) (input sent : List ℕ) : Type 0 where
   pub earlier : List ℕ
   pub piece : List ℕ
   pub split : input ≡ earlier ++ piece
   pub few : length piece ≤ 4096
   pub more : List ℕ
-  pub written : sent ≡ output_of (after_conversing config earlier) ++ more
+  pub written : sent ≡ output_of (after_conversing config earlier notes) ++ more
 
 -- what a play handed out was written, but for what is unsent; nothing was read yet, or all was written before the last read
-pub record HasWritten (config : Configuration) (out0 out1 : Output) (input unsent : List ℕ) (p : Play) : Type 0 where
+pub record HasWritten (config : Configuration) (notes : List LoadNote) (out0 out1 : Output) (input unsent : List ℕ) (p : Play) : Type 0 where
   pub sent : List ℕ
   pub split : output_of p ≡ sent ++ unsent
   pub written : Writes out0 out1 sent
-  pub prompt : (input ≡ []) ⊎ IsPrompt config input sent
+  pub prompt : (input ≡ []) ⊎ IsPrompt config notes input sent
 
 -- where a play writes: behind a frame with which there is enough unsent, before it reads on, before the connection is closed, and
 -- where the play comes to its end before that
-pub data WritesAt (config : Configuration) (input : List ℕ) (read_failed : Bool) (unsent : List ℕ) (p : Play) : Type 0 where
-  behind_frame : HasFilled unsent p → WritesAt config input read_failed unsent p
-  before_read : p ≡ after_conversing config input → WritesAt config input read_failed unsent p
-  before_close : p ≡ after_input_end (after_conversing config input) → WritesAt config input read_failed unsent p
-  at_early_end : (end : End) → Halts (Over end) p (played config input read_failed) → WritesAt config input read_failed unsent p
+pub data WritesAt (config : Configuration) (notes : List LoadNote) (input : List ℕ) (read_failed : Bool) (unsent : List ℕ) (p : Play)
+    : Type 0 where
+  behind_frame : HasFilled unsent p → WritesAt config notes input read_failed unsent p
+  before_read : p ≡ after_conversing config input notes → WritesAt config notes input read_failed unsent p
+  before_close : p ≡ after_input_end (after_conversing config input notes) → WritesAt config notes input read_failed unsent p
+  at_early_end : (end : End) → Halts (Over end) p (played config input read_failed notes) → WritesAt config notes input read_failed unsent p
 
 -- all writes before were done, and then one of what was unsent failed
-pub record FailsAt (config : Configuration) (out0 out1 : Output) (input : List ℕ) (read_failed : Bool) (p : Play) : Type 0 where
+pub record FailsAt (config : Configuration) (notes : List LoadNote) (out0 out1 : Output) (input : List ℕ) (read_failed : Bool) (p : Play)
+    : Type 0 where
   pub mid : Output
   pub unsent : List ℕ
-  pub written : HasWritten config out0 mid input unsent p
+  pub written : HasWritten config notes out0 mid input unsent p
   pub stopped : Stopped mid out1 unsent
-  pub point : WritesAt config input read_failed unsent p
+  pub point : WritesAt config notes input read_failed unsent p
 
 -- since it began a play has written what it handed out, but for what is unsent
-abbrev pub HasSent : Playing → Playing → List ℕ → Type 0
-HasSent start now input = HasWritten start.config start.output now.output input now.unsent (play_of now)
+abbrev pub HasSent : List LoadNote → Playing → Playing → List ℕ → Type 0
+HasSent notes start now input = HasWritten start.config notes start.output now.output input now.unsent (play_of notes now)
 
 -- what was written since then by a play that stopped
-abbrev pub StoppedBy : Playing → Playing → List ℕ → Bool → Stop → Type 0
-StoppedBy start now input read_failed (Over end) = HasSent start now input
-StoppedBy start now input read_failed OutOfMemory = HasSent start now input
-StoppedBy start now input read_failed WriteFault = FailsAt start.config start.output now.output input read_failed (play_of now)
+abbrev pub StoppedBy : List LoadNote → Playing → Playing → List ℕ → Bool → Stop → Type 0
+StoppedBy notes start now input read_failed (Over end) = HasSent notes start now input
+StoppedBy notes start now input read_failed OutOfMemory = HasSent notes start now input
+StoppedBy notes start now input read_failed WriteFault =
+    FailsAt start.config notes start.output now.output input read_failed (play_of notes now)
 
 -- ---- turns
 
 -- the connection goes on: what was read, entered and written since it began
-pub record Stands (start now : Playing) (stream : Stream) : Type 0 where
+pub record Stands (notes : List LoadNote) (start now : Playing) (stream : Stream) : Type 0 where
   pub blocks : List (List ℕ)
   pub are_blocks : AllByRecursion IsBlock blocks
   pub reads : Reads start.input now.input (concat blocks ++ stream.rest)
   pub read_faults : now.input.faults ≡ start.input.faults
-  pub play_is : play_of now ≡ after_commands (after_opening start.config) blocks
-  pub written : HasSent start now (concat blocks ++ stream.rest)
+  pub play_is : play_of notes now ≡ after_commands (after_opening start.config notes) blocks
+  pub written : HasSent notes start now (concat blocks ++ stream.rest)
 
 -- an end that neither a failed write nor want of memory brings
 abbrev pub is_told : End → Bool
@@ -100,39 +104,39 @@ is_told (ends.JournalFull cost limit) = true
 is_told (ends.Runaway count) = true
 
 -- the connection came to this end, and is not closed yet
-pub record Ends (start now : Playing) (end : End) : Type 0 where
+pub record Ends (notes : List LoadNote) (start now : Playing) (end : End) : Type 0 where
   pub input : List ℕ
   pub read_failed : Bool
   pub has_read : HasRead start.input now.input input read_failed
-  pub play_is : play_of now ≡ after_conversing start.config input
-  pub written : HasSent start now input
-  pub end_is : end ≡ end_behind (farewell (play_of now)) (fault_of (rest_of input)) read_failed
+  pub play_is : play_of notes now ≡ after_conversing start.config input notes
+  pub written : HasSent notes start now input
+  pub end_is : end ≡ end_behind (farewell (play_of notes now)) (fault_of (rest_of input)) read_failed
   pub told : is_told end ≡ true
   pub at_end : end ≡ ends.Eof → IsAtEnd now.input.left
 
 -- the connection was closed after this end, or the play came to it before
-pub record Concludes (start now : Playing) (end : End) : Type 0 where
+pub record Concludes (notes : List LoadNote) (start now : Playing) (end : End) : Type 0 where
   pub input : List ℕ
   pub read_failed : Bool
   pub has_read : HasRead start.input now.input input read_failed
-  pub play_is : played start.config input read_failed ≡ record (play_of now) { end = Some end }
-  pub written : Writes start.output now.output (output_of (play_of now))
+  pub play_is : played start.config input read_failed notes ≡ record (play_of notes now) { end = Some end }
+  pub written : Writes start.output now.output (output_of (play_of notes now))
   pub told : is_told end ≡ true
   pub at_end : end ≡ ends.Eof → IsAtEnd now.input.left
 
 -- the play stopped
-pub record Stops (start now : Playing) (stop : Stop) : Type 0 where
+pub record Stops (notes : List LoadNote) (start now : Playing) (stop : Stop) : Type 0 where
   pub input : List ℕ
   pub read_failed : Bool
   pub has_read : HasRead start.input now.input input read_failed
-  pub halts : Halts stop (play_of now) (played start.config input read_failed)
-  pub stopped : StoppedBy start now input read_failed stop
+  pub halts : Halts stop (play_of notes now) (played start.config input read_failed notes)
+  pub stopped : StoppedBy notes start now input read_failed stop
 
 -- what one turn did: the connection goes on, came to an end or stopped
-abbrev pub Turns : Playing → Playing → Stream → Result Turn Stop → Type 0
-Turns start now stream (Ok GoOn) = Stands start now stream
-Turns start now stream (Ok (Done end)) = Ends start now end
-Turns start now stream (Err stop) = Stops start now stop
+abbrev pub Turns : List LoadNote → Playing → Playing → Stream → Result Turn Stop → Type 0
+Turns notes start now stream (Ok GoOn) = Stands notes start now stream
+Turns notes start now stream (Ok (Done end)) = Ends notes start now end
+Turns notes start now stream (Err stop) = Stops notes start now stop
 
 -- how much there is to do at most: the cost that the journal has left, and for each unit of it the bytes that may be read before a block is
 -- whole
@@ -152,55 +156,57 @@ OnGoOn (Ok (Done end)) fact = Unit {0}
 OnGoOn (Err stop) fact = Unit {0}
 
 -- what a conversation did: it was closed after its end, or stopped
-abbrev pub Converses : Playing → Playing → Result End Stop → Type 0
-Converses start now (Ok end) = Concludes start now end
-Converses start now (Err stop) = Stops start now stop
+abbrev pub Converses : List LoadNote → Playing → Playing → Result End Stop → Type 0
+Converses notes start now (Ok end) = Concludes notes start now end
+Converses notes start now (Err stop) = Stops notes start now stop
 
 -- ---- the end
 
 -- the play came to its end
-pub record Finishes (config : Configuration) (in0 : Input) (out0 : Output) (in1 : Input) (out1 : Output) (end : End)
+pub record Finishes (config : Configuration) (notes : List LoadNote) (in0 : Input) (out0 : Output) (in1 : Input) (out1 : Output) (end : End)
     (journal : List Entry) : Type 0 where
   pub input : List ℕ
   pub read_failed : Bool
   pub has_read : HasRead in0 in1 input read_failed
-  pub journal_is : journal ≡ (played config input read_failed).journal
-  pub written : Writes out0 out1 (bytes_handed config (played config input read_failed).journal)
-  pub end_is : (played config input read_failed).end ≡ Some end
+  pub journal_is : journal ≡ (played config input read_failed notes).journal
+  pub written : Writes out0 out1 (bytes_handed config (played config input read_failed notes).journal)
+  pub end_is : (played config input read_failed notes).end ≡ Some end
   pub at_end : end ≡ ends.Eof → IsAtEnd in1.left
 
 -- the play broke off before its end: its journal is a front of the one that was to come
-pub record Breaks (config : Configuration) (in0 in1 : Input) (journal : List Entry) : Type 0 where
+pub record Breaks (config : Configuration) (notes : List LoadNote) (in0 in1 : Input) (journal : List Entry) : Type 0 where
   pub input : List ℕ
   pub read_failed : Bool
   pub has_read : HasRead in0 in1 input read_failed
   pub more : List Entry
-  pub split : (played config input read_failed).journal ≡ journal ++ more
+  pub split : (played config input read_failed notes).journal ≡ journal ++ more
 
 -- memory was wanting, and the frames that were handed out were written
-pub record LacksMemory (config : Configuration) (in0 : Input) (out0 : Output) (in1 : Input) (out1 : Output)
+pub record LacksMemory (config : Configuration) (notes : List LoadNote) (in0 : Input) (out0 : Output) (in1 : Input) (out1 : Output)
     (journal : List Entry) : Type 0 where
-  pub breaks : Breaks config in0 in1 journal
+  pub breaks : Breaks config notes in0 in1 journal
   pub written : Writes out0 out1 (bytes_handed config journal)
 
 -- memory was wanting, and then a write of the frames that were handed out failed
-pub record LacksBoth (config : Configuration) (in0 : Input) (out0 : Output) (in1 : Input) (out1 : Output)
+pub record LacksBoth (config : Configuration) (notes : List LoadNote) (in0 : Input) (out0 : Output) (in1 : Input) (out1 : Output)
     (journal : List Entry) : Type 0 where
-  pub breaks : Breaks config in0 in1 journal
+  pub breaks : Breaks config notes in0 in1 journal
   pub stopped : Stopped out0 out1 (bytes_handed config journal)
 
 -- a write failed where the play had come so far
-pub record BreaksAt (config : Configuration) (in0 : Input) (out0 : Output) (in1 : Input) (out1 : Output) (p : Play) : Type 0 where
-  pub breaks : Breaks config in0 in1 p.journal
+pub record BreaksAt (config : Configuration) (notes : List LoadNote) (in0 : Input) (out0 : Output) (in1 : Input) (out1 : Output) (p : Play)
+    : Type 0 where
+  pub breaks : Breaks config notes in0 in1 p.journal
   pub stopped : Stopped out0 out1 (bytes_handed config p.journal)
-  pub fails : FailsAt config out0 out1 breaks.input breaks.read_failed p
+  pub fails : FailsAt config notes out0 out1 breaks.input breaks.read_failed p
 
 -- memory was wanting, and all was written or a write of it failed; or a write failed and then memory was wanting to close the connection
-pub data WantsMemory (config : Configuration) (in0 : Input) (out0 : Output) (in1 : Input) (out1 : Output)
+pub data WantsMemory (config : Configuration) (notes : List LoadNote) (in0 : Input) (out0 : Output) (in1 : Input) (out1 : Output)
     (journal : List Entry) : Type 0 where
-  all_written : LacksMemory config in0 out0 in1 out1 journal → WantsMemory config in0 out0 in1 out1 journal
-  then_failed : LacksBoth config in0 out0 in1 out1 journal → WantsMemory config in0 out0 in1 out1 journal
-  failed_before : (p : Play) → BreaksAt config in0 out0 in1 out1 p → journal ≡ p.journal → WantsMemory config in0 out0 in1 out1 journal
+  all_written : LacksMemory config notes in0 out0 in1 out1 journal → WantsMemory config notes in0 out0 in1 out1 journal
+  then_failed : LacksBoth config notes in0 out0 in1 out1 journal → WantsMemory config notes in0 out0 in1 out1 journal
+  failed_before : (p : Play) → BreaksAt config notes in0 out0 in1 out1 p → journal ≡ p.journal →
+      WantsMemory config notes in0 out0 in1 out1 journal
 
 -- the connection is closed as Failed at this moment
 abbrev pub failed_at : ℕ → Entry
@@ -216,11 +222,11 @@ abbrev pub closed_failed : Play → List Entry
 closed_failed p = unless_refused (refusal_of (switch_of p) (failed_at p.clock)) (failed_at p.clock) p.journal
 
 -- a write failed, and then the connection was closed so
-pub record FailsToWrite (config : Configuration) (in0 : Input) (out0 : Output) (in1 : Input) (out1 : Output)
+pub record FailsToWrite (config : Configuration) (notes : List LoadNote) (in0 : Input) (out0 : Output) (in1 : Input) (out1 : Output)
     (journal : List Entry) : Type 0 where
   pub play : Play
   pub config_is : play.config ≡ config
-  pub breaks_at : BreaksAt config in0 out0 in1 out1 play
+  pub breaks_at : BreaksAt config notes in0 out0 in1 out1 play
   pub closes : journal ≡ closed_failed play
 
 -- what closing a connection as Failed came to, by how the play ends
@@ -230,16 +236,16 @@ ClosesFailed old new ends.Memory = new ≡ old
 ClosesFailed old new _ = ⊥
 
 -- what a play did, by its end
-abbrev pub Plays : Configuration → Input → Output → Input → Output → List Entry → End → Type 0
-Plays config in0 out0 in1 out1 journal ends.Memory = WantsMemory config in0 out0 in1 out1 journal
-Plays config in0 out0 in1 out1 journal ends.WriteFault = FailsToWrite config in0 out0 in1 out1 journal
-Plays config in0 out0 in1 out1 journal ends.Exit = Finishes config in0 out0 in1 out1 ends.Exit journal
-Plays config in0 out0 in1 out1 journal ends.Eof = Finishes config in0 out0 in1 out1 ends.Eof journal
-Plays config in0 out0 in1 out1 journal ends.AuthRefused = Finishes config in0 out0 in1 out1 ends.AuthRefused journal
-Plays config in0 out0 in1 out1 journal ends.Stopped = Finishes config in0 out0 in1 out1 ends.Stopped journal
-Plays config in0 out0 in1 out1 journal ends.ReadFault = Finishes config in0 out0 in1 out1 ends.ReadFault journal
-Plays config in0 out0 in1 out1 journal (ends.TooLong len) = Finishes config in0 out0 in1 out1 (ends.TooLong len) journal
-Plays config in0 out0 in1 out1 journal ends.BadLength = Finishes config in0 out0 in1 out1 ends.BadLength journal
-Plays config in0 out0 in1 out1 journal (ends.JournalFull cost limit) =
-    Finishes config in0 out0 in1 out1 (ends.JournalFull cost limit) journal
-Plays config in0 out0 in1 out1 journal (ends.Runaway count) = Finishes config in0 out0 in1 out1 (ends.Runaway count) journal
+abbrev pub Plays : Configuration → List LoadNote → Input → Output → Input → Output → List Entry → End → Type 0
+Plays config notes in0 out0 in1 out1 journal ends.Memory = WantsMemory config notes in0 out0 in1 out1 journal
+Plays config notes in0 out0 in1 out1 journal ends.WriteFault = FailsToWrite config notes in0 out0 in1 out1 journal
+Plays config notes in0 out0 in1 out1 journal ends.Exit = Finishes config notes in0 out0 in1 out1 ends.Exit journal
+Plays config notes in0 out0 in1 out1 journal ends.Eof = Finishes config notes in0 out0 in1 out1 ends.Eof journal
+Plays config notes in0 out0 in1 out1 journal ends.AuthRefused = Finishes config notes in0 out0 in1 out1 ends.AuthRefused journal
+Plays config notes in0 out0 in1 out1 journal ends.Stopped = Finishes config notes in0 out0 in1 out1 ends.Stopped journal
+Plays config notes in0 out0 in1 out1 journal ends.ReadFault = Finishes config notes in0 out0 in1 out1 ends.ReadFault journal
+Plays config notes in0 out0 in1 out1 journal (ends.TooLong len) = Finishes config notes in0 out0 in1 out1 (ends.TooLong len) journal
+Plays config notes in0 out0 in1 out1 journal ends.BadLength = Finishes config notes in0 out0 in1 out1 ends.BadLength journal
+Plays config notes in0 out0 in1 out1 journal (ends.JournalFull cost limit) =
+    Finishes config notes in0 out0 in1 out1 (ends.JournalFull cost limit) journal
+Plays config notes in0 out0 in1 out1 journal (ends.Runaway count) = Finishes config notes in0 out0 in1 out1 (ends.Runaway count) journal

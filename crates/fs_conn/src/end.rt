@@ -25,7 +25,7 @@ pub enum End {
     TooLong { len: u64 },
     /// By a block whose `Content-Length` is not 1 to 10 digits.
     BadLength,
-    /// By the journal, behind whose cost no further entry is accepted.
+    /// By the journal, behind whose cost no further entry is accepted, or no load, whose turn has come.
     JournalFull { cost: u64, limit: u64 },
     /// For want of memory.
     Memory,

@@ -15,6 +15,7 @@ ghost use Rattle.fs_book.specs.Opened.{Quiet};
 ghost use Rattle.fs_machine.specs.declared.entry.Entry.{Entry};
 ghost use Rattle.fs_machine.specs.declared.entry.Act.TheVariants.{Close};
 ghost use Rattle.fs_machine.specs.declared.entry.Closing.TheVariants.{Sent};
+ghost use Rattle.fs_machine.specs.declared.note.LoadNote.{LoadNote};
 ghost use Rattle.fs_machine.specs.Runs.{IsRunFrom};
 ghost use Rattle.fs_machine.specs.Frames.{commands_of, frames_from};
 ghost use Rattle.fs_machine.specs.Turned.{IsJournal, names};
@@ -29,72 +30,74 @@ ghost use Rattle.fs_conn.specs.Talks.{Told, ends_sent, IsCutOff, is_faultless};
 /// The journal of a play is a run of the machine from the empty switch: no entry of it is refused, in particular none
 /// comes where the journal is full.
 pub fn plays_a_run()
-    ensures { (config : Configuration) (input : List ℕ) (read_failed : Bool)
-        → IsRunFrom (empty config) (played config input read_failed).journal }
+    ensures { (config : Configuration) (input : List ℕ) (read_failed : Bool) (notes : List LoadNote)
+        → IsRunFrom (empty config) (played config input read_failed notes).journal }
 {}
 
 /// The commands in the journal of a play are the first blocks of its input, each once and in their order. They are all
 /// of its blocks where the input ended, could not be read on or went on with a bad block. Where the connection left by
 /// `exit`, or by a password that was refused, that is the last of them.
 pub fn enters_commands_once()
-    ensures first { (config : Configuration) (input : List ℕ) (read_failed : Bool) → (more : List (List ℕ))
-        × (blocks_of input ≡ commands_of 1 (played config input read_failed).journal ++ more) }
-    ensures all { (config : Configuration) (input : List ℕ) (read_failed : Bool) (end : End)
-        → IsWithin config → (played config input read_failed).end ≡ Some end → is_by_input end ≡ true
-        → commands_of 1 (played config input read_failed).journal ≡ blocks_of input }
-    ensures exit { (config : Configuration) (input : List ℕ) (read_failed : Bool)
-        → (played config input read_failed).end ≡ Some ends.Exit
-        → EndsFor parting.Exit config.settings.password (commands_of 1 (played config input read_failed).journal) }
-    ensures refused { (config : Configuration) (input : List ℕ) (read_failed : Bool)
-        → (played config input read_failed).end ≡ Some ends.AuthRefused
+    ensures first { (config : Configuration) (input : List ℕ) (read_failed : Bool) (notes : List LoadNote)
+        → (more : List (List ℕ)) × (blocks_of input ≡ commands_of 1 (played config input read_failed notes).journal ++ more) }
+    ensures all { (config : Configuration) (input : List ℕ) (read_failed : Bool) (notes : List LoadNote) (end : End)
+        → IsWithin config → (played config input read_failed notes).end ≡ Some end → is_by_input end ≡ true
+        → commands_of 1 (played config input read_failed notes).journal ≡ blocks_of input }
+    ensures exit { (config : Configuration) (input : List ℕ) (read_failed : Bool) (notes : List LoadNote)
+        → (played config input read_failed notes).end ≡ Some ends.Exit
+        → EndsFor parting.Exit config.settings.password (commands_of 1 (played config input read_failed notes).journal) }
+    ensures refused { (config : Configuration) (input : List ℕ) (read_failed : Bool) (notes : List LoadNote)
+        → (played config input read_failed notes).end ≡ Some ends.AuthRefused
         → EndsFor parting.AuthRefused config.settings.password
-        (commands_of 1 (played config input read_failed).journal) }
+        (commands_of 1 (played config input read_failed notes).journal) }
 {}
 
 /// A play comes to an end, and each end has its cause. So a play ends by `exit` only where that is its last command,
 /// by which its connection parted; as one that was made to stop only where by an entry its connection parted, behind
 /// which no command came, and which brought the end of the switch or left it without the channel that it controlled;
-/// by a full journal only where no further entry is accepted behind what its journal costs; and as one that ran away
-/// only where somebody still has something to do at the moment of the last 100,000 entries, all of which are work.
+/// by a full journal only where no further entry is accepted behind what its journal costs, or no load, whose turn has
+/// come; for want of memory only where its turn has come, there is room for it, and no note is left; and as one that ran
+/// away only where somebody still has something to do at the moment of the last 100,000 entries, all of which are work.
 pub fn ends_for_a_cause()
-    ensures ends { (config : Configuration) (input : List ℕ) (read_failed : Bool)
-        → (end : End) × ((played config input read_failed).end ≡ Some end) }
-    ensures cause { (config : Configuration) (input : List ℕ) (read_failed : Bool) (end : End)
-        → (played config input read_failed).end ≡ Some end
-        → HasCause end (played config input read_failed) (fault_of (rest_of input)) read_failed }
+    ensures ends { (config : Configuration) (input : List ℕ) (read_failed : Bool) (notes : List LoadNote)
+        → (end : End) × ((played config input read_failed notes).end ≡ Some end) }
+    ensures cause { (config : Configuration) (input : List ℕ) (read_failed : Bool) (notes : List LoadNote) (end : End)
+        → (played config input read_failed notes).end ≡ Some end
+        → HasCause end (played config input read_failed notes) (fault_of (rest_of input)) read_failed }
 {}
 
 /// The bytes that a play hands out are those of the frames that its journal gives the connection, in their order: all
-/// of them, or the first of them where the journal is full or the play ran away. The limit of a journal is at most
-/// 2^30 in every configuration.
+/// of them, or the first of them where the journal is full, no note is left for a load, or the play ran away. The limit
+/// of a journal is at most 2^30 in every configuration.
 pub fn hands_out_its_frames()
-    ensures first { (config : Configuration) (input : List ℕ) (read_failed : Bool)
+    ensures first { (config : Configuration) (input : List ℕ) (read_failed : Bool) (notes : List LoadNote)
         → config.settings.journal_limit ≤ 1073741824 → (more : List ℕ)
-        × (concat (frames_from 1 (empty config) (played config input read_failed).journal)
-        ≡ bytes_handed config (played config input read_failed).journal ++ more) }
-    ensures all { (config : Configuration) (input : List ℕ) (read_failed : Bool) (end : End)
+        × (concat (frames_from 1 (empty config) (played config input read_failed notes).journal)
+        ≡ bytes_handed config (played config input read_failed notes).journal ++ more) }
+    ensures all { (config : Configuration) (input : List ℕ) (read_failed : Bool) (notes : List LoadNote) (end : End)
         → config.settings.journal_limit ≤ 1073741824
-        → (played config input read_failed).end ≡ Some end → is_early end ≡ false
-        → bytes_handed config (played config input read_failed).journal
-        ≡ concat (frames_from 1 (empty config) (played config input read_failed).journal) }
+        → (played config input read_failed notes).end ≡ Some end → is_early end ≡ false
+        → bytes_handed config (played config input read_failed notes).journal
+        ≡ concat (frames_from 1 (empty config) (played config input read_failed notes).journal) }
 {}
 
-/// A play that comes to its end with its connection, and neither by a full journal nor since it ran away, ends its
-/// journal with the closing of that connection, of which all was sent.
+/// A play that comes to its end with its connection, and not before that by a full journal, for a load of which no note
+/// is left, or since it ran away, ends its journal with the closing of that connection, of which all was sent.
 pub fn closes_at_its_end()
-    ensures { (config : Configuration) (input : List ℕ) (read_failed : Bool) (end : End)
-        → IsWithin config → (played config input read_failed).end ≡ Some end → is_early end ≡ false
+    ensures { (config : Configuration) (input : List ℕ) (read_failed : Bool) (notes : List LoadNote) (end : End)
+        → IsWithin config → (played config input read_failed notes).end ≡ Some end → is_early end ≡ false
         → (before : List Entry) × (moment : ℕ)
-        × ((played config input read_failed).journal
+        × ((played config input read_failed notes).journal
         ≡ before ++ record { moment = moment; act = Close 1 Sent } ∷ []) }
 {}
 
 /// No entry that a play tries is refused but for a full journal: judged by the room in the journal alone, so that each
-/// is entered until the journal is full, which ends all, the entries make the same play. Each configuration keeps its
-/// limits.
+/// is entered until the journal is full for it, which ends all, the entries make the same play. Each configuration keeps
+/// its limits.
 pub fn refuses_only_when_full()
-    ensures { (config : Configuration) (input : List ℕ) (read_failed : Bool)
-        → IsWithin config → played config input read_failed ≡ played_as by_room config input read_failed }
+    ensures { (config : Configuration) (input : List ℕ) (read_failed : Bool) (notes : List LoadNote)
+        → IsWithin config
+        → played config input read_failed notes ≡ played_as by_room config input read_failed notes }
 {}
 
 /// The entry by which its connection parted decides how a conversation ends. A journal has one such entry at most. A

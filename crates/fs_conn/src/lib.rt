@@ -8,6 +8,7 @@ mod conversing;
 mod end;
 mod ending;
 mod entering;
+mod file;
 mod handing;
 mod laws;
 mod owner;
@@ -21,6 +22,7 @@ mod stop;
 mod unsent;
 mod welcoming;
 mod wire;
+mod working;
 
 pub use connection::play;
 pub use conversing::converse;

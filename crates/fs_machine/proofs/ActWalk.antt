@@ -50,7 +50,7 @@ use Rattle.fs_chan.specs.declared.chan.Chan.{Chan}
 use Rattle.fs_chan.specs.declared.wait.Wait.TheVariants.{Ready}
 use Rattle.fs_chan.specs.Controlling.{dial_of}
 use Rattle.fs_state.specs.Switch.{Switch, chan_at, with_chan, with_event, job_of, without_job, slot_named, is_full_of_jobs}
-use Rattle.fs_state.specs.Switch.{is_full_of_conns}
+use Rattle.fs_state.specs.Switch.{is_full_of_conns, passes_limit}
 use Rattle.fs_state.specs.Moves.{plain_event, after_move, after_completion}
 use Rattle.fs_state.specs.Hangups.{after_hangups, legs_at, lives, lives_at}
 use Rattle.fs_state.specs.Bridging.{can_join, joined_as, after_join}
@@ -64,7 +64,7 @@ use Rattle.fs_machine.specs.declared.owing.Giver.TheVariants as giver
 use Rattle.fs_machine.specs.Texts.{ok, too_many_jobs, made_text, no_channel, not_ready}
 use Rattle.fs_machine.specs.Connections.{phase_at, conn_changed, admitted, subs_at}
 use Rattle.fs_machine.specs.Attempts.{after_verdict_on}
-use Rattle.fs_machine.specs.Owing.{job_uuid, background_begun, job_event}
+use Rattle.fs_machine.specs.Owing.{job_uuid, background_begun, job_event, after_job_begin}
 use Rattle.fs_machine.specs.Jobs.{told_if, command_run, after_job_work, job_done_from, job_done}
 use Rattle.fs_machine.specs.Done.{Done, says, no_reply_yet}
 use Rattle.fs_machine.specs.Joining.{both_left, both_queues_left, in_the_way, after_leaving, both_in_media, joined_done, bridged_unless, bridge_done_at}
@@ -95,9 +95,11 @@ use Rattle.fs_machine.specs.Commands.{unless_denied, greeted_by, after_connect}
 use Rattle.fs_machine.specs.Commands.{with_filter_added, with_filters_deleted, queued_on, message_done, message_done_at, message_sent}
 use Rattle.fs_machine.specs.Controlling.{dial_at, has_hold, taken_hold, after_dial_of, after_dial, after_letting_go, farewell, after_leavings}
 use Rattle.fs_machine.specs.Controlling.{greeting_for}
+use Rattle.fs_machine.specs.Entries.{is_load}
+use Rattle.fs_machine.specs.Loading.{journal_limit_text, reload_begun}
 use Rattle.fs_machine.specs.Step.{after_close, acted, act_done}
 use Rattle.fs_machine.proofs.Kept.{IsApart, hold_in, Stays, Stage, Fact, KeptByCalls, DoesJob, KeptByJobs, KeptByDials, LeavesBy}
-use Rattle.fs_machine.proofs.Kept.{IsShortWinner}
+use Rattle.fs_machine.proofs.Kept.{IsShortWinner, KeptByReload}
 use Rattle.fs_machine.proofs.DrawnLemmas.{SameDrawn, both_left_drawn}
 use Rattle.fs_machine.proofs.Kept.{WasApart, WasLetGo, AreDead, MayGoOn, KeptByApi, KeptByCommands, KeptByMoves}
 use Rattle.fs_machine.proofs.ShortLemmas.{right_holds, NamesShort, api_short, expanded_short}
@@ -113,6 +115,7 @@ use Rattle.fs_machine.proofs.AbortLemmas.{queue_left_kept, queues_left_kept}
 use Rattle.fs_state.specs.Queues.{queue_event}
 use Rattle.fs_state.specs.declared.event.QueueAction.TheVariants.{Abort}
 use Rattle.fs_machine.proofs.RestLemmas.{hung_rest, does_same}
+use Rattle.fs_machine.proofs.LoadLemmas.{load_kept}
 
 -- ---- queues that were left
 
@@ -194,7 +197,23 @@ module _ (who : Giver) (P : Fact) (calls : KeptByCalls P) (commands : KeptByApi 
       by : (full : Bool) → is_full_of_jobs s ≡ full →
           P (Some 0) (if full then says too_many_jobs s else no_reply_yet (sleep_begun who milliseconds s)).state
       by true is = commands.spent h
-      by false is = commands.sleeps (moment_after s.moment (milliseconds * 1000)) may is h
+      by false is = commands.waits (work.Sleep (moment_after s.moment (milliseconds * 1000))) tt may is h
+
+  reload_kept : {s : Switch} → MayGoOn P who s → P None s → P (Some 0) (reload_begun who s).state
+  reload_kept {s} may h = by (is_full_of_jobs s) refl
+    where
+      room : (passes : Bool) → is_full_of_jobs s ≡ false →
+          P (Some 0) (if passes then says journal_limit_text s else no_reply_yet (after_job_begin who work.Load s)).state
+      room true is = commands.spent h
+      room false is = commands.waits work.Load tt may is h
+
+      by : (full : Bool) → is_full_of_jobs s ≡ full →
+          P (Some 0)
+          (if full then says too_many_jobs s
+          else if passes_limit 1114241 s then says journal_limit_text s
+          else no_reply_yet (after_job_begin who work.Load s)).state
+      by true is = commands.spent h
+      by false is = room (passes_limit 1114241 s) is
 
   dialed_kept : (url : Text) (read : Result Dial DialFault) → dial_string url ≡ read → (winner : Winner) (caller : Caller)
       (timeout : Option ℕ) {s : Switch} → MayGoOn P who s → IsShortWinner winner → is_full_of_jobs s ≡ false → P None s →
@@ -345,6 +364,7 @@ module _ (who : Giver) (P : Fact) (calls : KeptByCalls P) (commands : KeptByApi 
   done_plainly_kept api.Shutdown {s} may short h =
       shut_down_kept P calls (λ t k. commands.leavings {s = t} k) (λ reply notice t dead k. commands.ends reply notice {s = t} dead k) s h
       (commands.spent h)
+  done_plainly_kept api.Reloadxml may short h = calls.more (reload_kept may h)
   done_plainly_kept (api.Originate url winner cid_name cid_number timeout) may short h =
       calls.more (originated_kept url winner (record { name = cid_name; number = cid_number }) timeout may short h)
   done_plainly_kept (api.Usage which) may short h = calls.more (commands.spent h)
@@ -394,9 +414,10 @@ module _ (before : Switch) (P : Fact) (calls : KeptByCalls P) (dials : KeptByDia
       P (Some 1) (after_job_work what number who before)
   job_works_kept work.Run number (asker.Conn conn) does early h = calls.more h
   job_works_kept work.Run number (asker.Background job) does early h = run_kept number job does early
-  job_works_kept (work.Sleep until) number who does early h = calls.more (jobs.woken number who until ok does h)
+  job_works_kept (work.Sleep until) number who does early h = calls.more (jobs.woken number who (work.Sleep until) ok tt does h)
   job_works_kept (work.Originate orig winner caller) number who does early h =
       calls.more (job_tried_kept number orig who winner caller does early h)
+  job_works_kept work.Load number who does early h = calls.more h
 
   -- a command that it runs may draw an identifier for no slot
   pub job_kept : (number : ℕ) → P None before → P (Some 0) before → P (Some 1) (job_done number before)
@@ -611,19 +632,23 @@ module _ (before : Switch) (P : Fact) (kept : KeptByMoves before P) where
       by None there (Some text) is = absurd (none-some text is)
       by (Some c) there (Some text) is = held c text there is (has_hold linked before) refl
 
-  -- an act frees one slot at most, or draws one identifier for none
-  alone_kept : (a : Act) → P None before → P (Some 1) (acted a before).state
-  alone_kept act.Arrive h = kept.calls.more (kept.visits.arrived h)
-  alone_kept (act.Command conn block) h = commanded_kept conn P kept.calls (kept.commands conn) (command_of block) h
-  alone_kept (act.Take conn) h = kept.calls.more (kept.visits.taken conn (spent h))
-  alone_kept (act.Close conn how) h = kept.calls.more (closed_kept how conn h)
-  alone_kept (act.Dialed slot linked) h = kept.calls.more (dial_kept linked slot h)
-  alone_kept (act.Work slot) h = worked_kept before P kept.calls kept.dials slot h
-  alone_kept act.Halt h =
+  -- an act frees one slot at most, or draws one identifier for none; a load frees none, and brings other contexts
+  alone_kept : (a : Act) → (is_load a ≡ true → KeptByReload P) → P None before → P (Some 1) (acted a before).state
+  alone_kept act.Arrive reloads h = kept.calls.more (kept.visits.arrived h)
+  alone_kept (act.Command conn block) reloads h = commanded_kept conn P kept.calls (kept.commands conn) (command_of block) h
+  alone_kept (act.Take conn) reloads h = kept.calls.more (kept.visits.taken conn (spent h))
+  alone_kept (act.Close conn how) reloads h = kept.calls.more (closed_kept how conn h)
+  alone_kept (act.Dialed slot linked) reloads h = kept.calls.more (dial_kept linked slot h)
+  alone_kept (act.Work slot) reloads h = worked_kept before P kept.calls kept.dials slot h
+  alone_kept act.Halt reloads h =
       shut_down_kept P kept.calls (λ t k. leavings {s = t} k) (λ reply notice t dead k. kept.visits.halted reply notice {s = t} dead k) before h
       (spent h)
-  alone_kept (act.Job number) h = job_kept before P kept.calls kept.dials kept.jobs number h (spent h)
+  alone_kept (act.Job number) reloads h = job_kept before P kept.calls kept.dials kept.jobs number h (spent h)
+  alone_kept (act.Loaded number note) reloads h =
+      kept.calls.more (load_kept (P (Some 0)) (P (Some 0))
+      (λ config globals t k. kept.calls.touches.globals globals (reloads refl config t k)) (λ t k. k)
+      (λ job who answer t does k. kept.jobs.woken job who work.Load answer tt does k) note number before (spent h))
 
   -- so it does with what comes behind it
-  pub acted_kept : (a : Act) → P None before → P (Some 1) (act_done a before).state
-  acted_kept a h = leavings (alone_kept a h)
+  pub acted_kept : (a : Act) → (is_load a ≡ true → KeptByReload P) → P None before → P (Some 1) (act_done a before).state
+  acted_kept a reloads h = leavings (alone_kept a reloads h)

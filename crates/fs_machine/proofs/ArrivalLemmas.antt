@@ -5,7 +5,7 @@ use Rattle.fs_doc.specs.Reading.{Configuration}
 use Rattle.fs_state.specs.Switch.{Switch, empty, at_moment}
 use Rattle.fs_machine.specs.declared.entry.Entry.{Entry}
 use Rattle.fs_machine.specs.declared.entry.Act.{Act}
-use Rattle.fs_machine.specs.declared.entry.Act.TheVariants.{Arrive, Command, Take, Close, Dialed, Work, Job, Halt}
+use Rattle.fs_machine.specs.declared.entry.Act.TheVariants.{Arrive, Command, Take, Close, Dialed, Work, Job, Loaded, Halt}
 use Rattle.fs_machine.specs.declared.entry.Closing.TheVariants.{EndOfInput, Sent, Failed}
 use Rattle.fs_machine.specs.declared.reply.Reply.{Reply}
 use Rattle.fs_machine.specs.declared.reply.Reply.TheVariants as reply
@@ -48,6 +48,7 @@ act_counts (Close conn Failed) s room = gone_drawn conn s
 act_counts (Dialed slot linked) s room = dial_counts linked slot s room
 act_counts (Work slot) s room = (act_keeps (Work slot) s).drawn
 act_counts (Job number) s room = (act_keeps (Job number) s).drawn
+act_counts (Loaded number note) s room = (act_keeps (Loaded number note) s).drawn
 act_counts Halt s room = (act_keeps Halt s).drawn
 
 -- whether one comes is no matter of the clock

@@ -31,7 +31,7 @@ use Rattle.fs_state.specs.declared.conn.Conn.{Conn}
 use Rattle.fs_state.specs.declared.conn.Parting.TheVariants as parting
 use Rattle.fs_state.specs.declared.job.Asker.{Asker}
 use Rattle.fs_state.specs.declared.job.JobWork.{JobWork}
-use Rattle.fs_state.specs.declared.job.JobWork.TheVariants.{Sleep, Originate}
+use Rattle.fs_state.specs.declared.job.JobWork.TheVariants.{Originate}
 use Rattle.fs_state.specs.Switch.{Switch, chan_at, with_chan, with_bridge, next_orig_number, without_orig, is_full_of_jobs}
 use Rattle.fs_state.specs.Moves.{after_move_from, after_move}
 use Rattle.fs_state.specs.Hangups.{lives_at}
@@ -316,9 +316,9 @@ module _ (before : Switch) (stand : LegsStand (roles_of before)) (left : has_num
   berthing_api by q = record {
     spent = λ h. (q.spent h.0, h.1);
     draws = λ h. (q.draws h.0, h.1);
-    sleeps = λ until {s = s} may free h. (
-      q.sleeps until (goes_on_by Berthing Q by s may (λ t k. k.0)) free h.0,
-      begun_by_job by (Sleep until) s h.1,
+    waits = λ what {s = s} wait may free h. (
+      q.waits what wait (goes_on_by Berthing Q by s may (λ t k. k.0)) free h.0,
+      begun_by_job by what s h.1,
     );
     originates = λ groups winner caller timeout {s = s} may are short free h. (
       q.originates groups winner caller timeout (goes_on_by Berthing Q by s may (λ t k. k.0)) are short free h.0,
@@ -335,8 +335,8 @@ module _ (before : Switch) (stand : LegsStand (roles_of before)) (left : has_num
   berthing_jobs = record {
     out = λ number job does h. (kept.jobs.out number job does h.0, h.1);
     runs = λ number job. berthing_api (giver.Job number job) (kept.jobs.runs number job);
-    woken = λ number who until answer {s = s} does h. (
-      kept.jobs.woken number who until answer does h.0,
+    woken = λ number who what answer {s = s} wait does h. (
+      kept.jobs.woken number who what answer wait does h.0,
       ended_berthed number who answer s h.1,
     );
     failed = λ job who winner caller orig cause {s = s} does over h. (

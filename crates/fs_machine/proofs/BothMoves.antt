@@ -39,9 +39,9 @@ module _ (P Q : Fact) where
   both_api by p q = record {
     spent = λ h. (p.spent h.0, q.spent h.1);
     draws = λ h. (p.draws h.0, q.draws h.1);
-    sleeps = λ until {s = s} may room h. (
-      p.sleeps until (goes_on_by (Both P Q) P by s may (λ t k. k.0)) room h.0,
-      q.sleeps until (goes_on_by (Both P Q) Q by s may (λ t k. k.1)) room h.1,
+    waits = λ what {s = s} wait may room h. (
+      p.waits what wait (goes_on_by (Both P Q) P by s may (λ t k. k.0)) room h.0,
+      q.waits what wait (goes_on_by (Both P Q) Q by s may (λ t k. k.1)) room h.1,
     );
     originates = λ groups winner caller timeout {s = s} may are short room h. (
       p.originates groups winner caller timeout (goes_on_by (Both P Q) P by s may (λ t k. k.0)) are short room h.0,
@@ -56,7 +56,8 @@ module _ (P Q : Fact) where
     both_jobs p q = record {
       out = λ number job does h. (p.out number job does h.0, q.out number job does h.1);
       runs = λ number job. both_api (giver.Job number job) (p.runs number job) (q.runs number job);
-      woken = λ number who until answer does h. (p.woken number who until answer does h.0, q.woken number who until answer does h.1);
+      woken = λ number who what answer wait does h.
+          (p.woken number who what answer wait does h.0, q.woken number who what answer wait does h.1);
       failed = λ job who winner caller orig cause does over h.
           (p.failed job who winner caller orig cause does over h.0, q.failed job who winner caller orig cause does over h.1);
       wins = λ job who winner caller orig leg slots does won h.

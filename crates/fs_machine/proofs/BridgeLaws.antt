@@ -83,7 +83,7 @@ step_told past s entry h =
     let now : Switch = at_moment entry.moment s in
     let t : Switch = (act_done entry.act now).state in
     past_told past t (step s entry).state
-    (acted_kept now (Telling past) (telling_moves past now) entry.act
+    (acted_kept now (Telling past) (telling_moves past now) entry.act (λ loads config t k. k)
     (record { rows = h.told.rows; named = h.told.named; behind = h.told.behind; begin = h.told.begin; end = h.told.end })) refl refl
 
 run_told : (seat : ℕ) (past : List Event) (s : Switch) (entries : List Entry) → HasTold past s →

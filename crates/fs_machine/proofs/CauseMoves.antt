@@ -33,7 +33,7 @@ use Rattle.fs_state.specs.declared.conn.Parting.TheVariants as parting
 use Rattle.fs_state.specs.declared.job.Asker.{Asker}
 use Rattle.fs_state.specs.declared.job.Asker.TheVariants as asker
 use Rattle.fs_state.specs.declared.job.JobWork.{JobWork}
-use Rattle.fs_state.specs.declared.job.JobWork.TheVariants.{Sleep, Originate}
+use Rattle.fs_state.specs.declared.job.JobWork.TheVariants.{Originate}
 use Rattle.fs_state.specs.Switch.{Switch, chan_at, orig_of, next_orig_number, with_new_job, without_job}
 use Rattle.fs_state.specs.Switch.{without_orig, with_bridge}
 use Rattle.fs_state.specs.Moves.{orig_changed_from, orig_changed, leg_changed_at, leg_changed, after_move, orig_given_up}
@@ -399,7 +399,7 @@ told_api : (by : Giver) → KeptByApi by Told
 told_api by = record {
   spent = λ h. h;
   draws = λ h. h;
-  sleeps = λ until {s = s} may room h. owing_told by (Sleep until) s h;
+  waits = λ what {s = s} wait may room h. owing_told by what s h;
   originates = λ groups winner caller timeout {s = s} may are short room h. originates_told by groups winner caller timeout s are h;
   leavings = λ h. h;
   ends = λ reply notice {s = s} dead h. none_told (length s.origs);
@@ -409,7 +409,7 @@ told_jobs : (before : Switch) → KeptByJobs before Told
 told_jobs before = record {
   out = λ number job does h. h;
   runs = λ number job. told_api (giver.Job number job);
-  woken = λ number who until answer {s = s} does h. ended_told number who answer s h;
+  woken = λ number who what answer {s = s} wait does h. ended_told number who answer s h;
   failed = λ job who winner caller orig cause {s = s} does over h.
       ended_told job who (failed_text cause) (without_orig orig s) (without_told orig s h);
   wins = λ job who winner caller orig leg slots does won h.

@@ -24,7 +24,7 @@ use Rattle.fs_state.specs.Switch.{Switch, empty, chan_at, conn_of, waiting_for, 
 use Rattle.fs_state.specs.Switch.{with_frame_taken, after_entry, all_given}
 use Rattle.fs_machine.specs.declared.entry.Entry.{Entry}
 use Rattle.fs_machine.specs.declared.entry.Act.{Act}
-use Rattle.fs_machine.specs.declared.entry.Act.TheVariants.{Arrive, Command, Take, Close, Dialed, Work, Job, Halt}
+use Rattle.fs_machine.specs.declared.entry.Act.TheVariants.{Arrive, Command, Take, Close, Dialed, Work, Job, Loaded, Halt}
 use Rattle.fs_machine.specs.declared.entry.Closing.TheVariants.{EndOfInput, Sent, Failed}
 use Rattle.fs_machine.specs.declared.refusal.Refusal.TheVariants as refusal
 use Rattle.fs_machine.specs.Entries.{cost_of}
@@ -213,6 +213,7 @@ actor_open (Close conn Failed) number s same none =
 actor_open (Dialed slot linked) number s same none = absurd (none-some number same)
 actor_open (Work slot) number s same none = absurd (none-some number same)
 actor_open (Job job) number s same none = absurd (none-some number same)
+actor_open (Loaded job note) number s same none = absurd (none-some number same)
 actor_open Halt number s same none = absurd (none-some number same)
 
 -- one that is closed by an entry is given nothing

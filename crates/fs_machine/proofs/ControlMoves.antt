@@ -32,7 +32,7 @@ use Rattle.fs_state.specs.declared.conn.Parting.TheVariants as parting
 use Rattle.fs_state.specs.declared.job.Asker.{Asker}
 use Rattle.fs_state.specs.declared.job.Asker.TheVariants as asker
 use Rattle.fs_state.specs.declared.job.JobWork.{JobWork}
-use Rattle.fs_state.specs.declared.job.JobWork.TheVariants.{Sleep, Originate}
+use Rattle.fs_state.specs.declared.job.JobWork.TheVariants.{Originate}
 use Rattle.fs_state.specs.Ending.{ended}
 use Rattle.fs_state.specs.Switch.{Switch, chan_at, with_chan, conn_of, is_full_of_conns, with_new_job, without_job, without_orig}
 use Rattle.fs_state.specs.Switch.{next_orig_number}
@@ -545,7 +545,7 @@ api_held : (by : Giver) → KeptByApi by Held
 api_held by = record {
   spent = λ h. (h.0, tt);
   draws = λ h. (h.0, tt);
-  sleeps = λ until {s = s} may room h. (begun_held by (Sleep until) s h.0, tt);
+  waits = λ what {s = s} wait may room h. (begun_held by what s h.0, tt);
   originates = λ groups winner caller timeout {s = s} may are short room h. (originated_held by groups winner caller timeout s h.0, tt);
   leavings = λ {s = s} h. (leaves_holds s h.0, tt);
   ends = λ reply notice {s = s} dead h. (dead_holds s (ended reply notice s).conns dead h.0, tt);
@@ -562,7 +562,7 @@ held_moves before = record {
   jobs = record {
     out = λ number job does h. h;
     runs = λ number job. api_held (giver.Job number job);
-    woken = λ number who until answer {s = s} does h. (ended_held number who answer s h.0, tt);
+    woken = λ number who what answer {s = s} wait does h. (ended_held number who answer s h.0, tt);
     failed = λ job who winner caller orig cause {s = s} does over h. (ended_held job who (failed_text cause) (without_orig orig s) h.0, tt);
     wins = λ job who winner caller orig leg slots does won h.
         let t : Switch = raced slots before in

@@ -2,7 +2,7 @@
 use Rattle.std.proofs.Common.{◌≡◌, ℕ, ◌<◌, max, leb, Bool, true, false, List, Option, None, Some, ◌⊎◌, inl, inr, refl, sym, ap, subst, ◌∙◌}
 use Rattle.std.proofs.Common.{arith, if◌then◌else◌, is_none, true≢false}
 use Rattle.std.specs.Option.{option_and_then}
-use Rattle.std.specs.Prelude.{◌||◌, is_some}
+use Rattle.std.specs.Prelude.{◌||◌, not, is_some}
 use Rattle.std.proofs.lemmas.Bool.{both_ways, or_cases, false≢true}
 use Rattle.std.proofs.lemmas.Option.{none-some, same_Some}
 use Rattle.fs_chan.specs.declared.chan.Chan.{Chan}
@@ -31,17 +31,19 @@ use Rattle.fs_seats.specs.Least.{lesser}
 use Rattle.fs_seats.proofs.LeastLemmas.{lesser_is, least_held, least_never}
 use Rattle.fs_state.specs.declared.job.Job.{Job}
 use Rattle.fs_state.specs.declared.job.JobWork.{JobWork}
-use Rattle.fs_state.specs.declared.job.JobWork.TheVariants.{Run, Sleep, Originate}
+use Rattle.fs_state.specs.declared.job.JobWork.TheVariants.{Run, Sleep, Originate, Load}
 use Rattle.fs_state.specs.Switch.{Switch, empty, chan_at, orig_of, job_of, at_moment}
 use Rattle.fs_machine.specs.declared.due.DueActor.{DueActor}
 use Rattle.fs_machine.specs.declared.due.DueActor.TheVariants as actor
 use Rattle.fs_machine.specs.declared.entry.Entry.{Entry}
-use Rattle.fs_machine.specs.declared.entry.Act.TheVariants.{Dialed, Work, Job as Works}
+use Rattle.fs_machine.specs.declared.entry.Act.TheVariants.{Dialed, Work, Job as Works, Loaded}
 use Rattle.fs_machine.specs.declared.refusal.Refusal.TheVariants as refusal
+use Rattle.fs_machine.specs.declared.note.LoadNote.{LoadNote}
 use Rattle.fs_machine.specs.Controlling.{dial_at}
+use Rattle.fs_machine.specs.Loading.{waits_for_load}
 use Rattle.fs_machine.specs.Due.{slot_due, orig_due, due_wanting, due_by, work_due, job_due, is_now, later_of, is_due, due_slot, chan_moment, row_moment}
 use Rattle.fs_machine.specs.Due.{number_where, due_number, due_job, first_chan_moment, first_job_moment, actor_or, later_or_never}
-use Rattle.fs_machine.specs.Due.{dials, turn_of, due_among_all, next_due}
+use Rattle.fs_machine.specs.Due.{dials, turn_of, turn_of_job, due_among_all, next_due}
 use Rattle.fs_machine.specs.Step.{refused_where, not_due, refused_act}
 use Rattle.fs_machine.specs.Runs.{run_from, IsRunFrom}
 use Rattle.fs_machine.proofs.DueLemmas.{next_to_come}
@@ -87,7 +89,7 @@ dial_accepted_for : (waits : Option Text) → is_some waits ≡ true → refused
 dial_accepted_for None is = absurd (false≢true is)
 dial_accepted_for (Some text) is = refl
 
-job_works : (s : Switch) (number : ℕ) → AreKnown s → due_job s ≡ Some number → refused_act (Works number) s ≡ None
+job_works : (s : Switch) (number : ℕ) → AreKnown s → due_job s ≡ Some number → not_due (job_due number s) ≡ None
 job_works s number are is = let found = least_held (due_number s) s.jobs number is in at found.0 (held_in s.jobs found.0) refl found.1
   where
     by : (row : Numbered Job) → job_of s row.number ≡ Some row.held → (due : Bool) → is_now (work_due s row.held.work) ≡ due →
@@ -116,6 +118,10 @@ dial_turn : (waits : Bool) (slot n : ℕ) → (if waits then actor.Dial slot els
 dial_turn true slot n is = let same : slot ≡ n = cc is in (refl, same)
 dial_turn false slot n is = absurd (cc is)
 
+no_load_turn : (waits : Bool) (slot n : ℕ) → (if waits then actor.Dial slot else actor.Slot slot) ≡ actor.Load n → ⊥
+no_load_turn true slot n is = absurd (cc is)
+no_load_turn false slot n is = absurd (cc is)
+
 no_job_turn : (waits : Bool) (slot n : ℕ) → (if waits then actor.Dial slot else actor.Slot slot) ≡ actor.Job n → ⊥
 no_job_turn true slot n is = absurd (cc is)
 no_job_turn false slot n is = absurd (cc is)
@@ -124,31 +130,63 @@ no_later_turn : (waits : Bool) (slot n : ℕ) → (if waits then actor.Dial slot
 no_later_turn true slot n is = absurd (cc is)
 no_later_turn false slot n is = absurd (cc is)
 
+-- and among jobs: one that waits for a load, or another
+job_turn : (loads : Bool) (job n : ℕ) → (if loads then actor.Load job else actor.Job job) ≡ actor.Job n → (loads ≡ false) × (job ≡ n)
+job_turn true job n is = absurd (cc is)
+job_turn false job n is = let same : job ≡ n = cc is in (refl, same)
+
+load_turn : (loads : Bool) (job n : ℕ) → (if loads then actor.Load job else actor.Job job) ≡ actor.Load n → (loads ≡ true) × (job ≡ n)
+load_turn true job n is = let same : job ≡ n = cc is in (refl, same)
+load_turn false job n is = absurd (cc is)
+
+job_no_slot : (loads : Bool) (job n : ℕ) → (if loads then actor.Load job else actor.Job job) ≡ actor.Slot n → ⊥
+job_no_slot true job n is = absurd (cc is)
+job_no_slot false job n is = absurd (cc is)
+
+job_no_dial : (loads : Bool) (job n : ℕ) → (if loads then actor.Load job else actor.Job job) ≡ actor.Dial n → ⊥
+job_no_dial true job n is = absurd (cc is)
+job_no_dial false job n is = absurd (cc is)
+
+job_no_later : (loads : Bool) (job n : ℕ) → (if loads then actor.Load job else actor.Job job) ≡ actor.Later n → ⊥
+job_no_later true job n is = absurd (cc is)
+job_no_later false job n is = absurd (cc is)
+
 slot_among : (s : Switch) (slot job moment : Option ℕ) (n : ℕ) →
-    actor_or (turn_of s) slot (actor_or actor.Job job (later_or_never moment)) ≡ actor.Slot n →
+    actor_or (turn_of s) slot (actor_or (turn_of_job s) job (later_or_never moment)) ≡ actor.Slot n →
     (slot ≡ Some n) × (dials (chan_at s n) ≡ false)
 slot_among s (Some slot) job moment n is =
     let turn = slot_turn (dials (chan_at s slot)) slot n is in
     (ap Some turn.1, subst (λ at. dials (chan_at s at) ≡ false) turn.1 turn.0)
-slot_among s None (Some job) moment n is = absurd (cc is)
+slot_among s None (Some job) moment n is = absurd (job_no_slot (waits_for_load job s) job n is)
 slot_among s None None (Some moment) n is = absurd (cc is)
 slot_among s None None None n is = absurd (cc is)
 
 dial_among : (s : Switch) (slot job moment : Option ℕ) (n : ℕ) →
-    actor_or (turn_of s) slot (actor_or actor.Job job (later_or_never moment)) ≡ actor.Dial n → dials (chan_at s n) ≡ true
+    actor_or (turn_of s) slot (actor_or (turn_of_job s) job (later_or_never moment)) ≡ actor.Dial n → dials (chan_at s n) ≡ true
 dial_among s (Some slot) job moment n is =
     let turn = dial_turn (dials (chan_at s slot)) slot n is in
     subst (λ at. dials (chan_at s at) ≡ true) turn.1 turn.0
-dial_among s None (Some job) moment n is = absurd (cc is)
+dial_among s None (Some job) moment n is = absurd (job_no_dial (waits_for_load job s) job n is)
 dial_among s None None (Some moment) n is = absurd (cc is)
 dial_among s None None None n is = absurd (cc is)
 
 job_among : (s : Switch) (slot job moment : Option ℕ) (n : ℕ) →
-    actor_or (turn_of s) slot (actor_or actor.Job job (later_or_never moment)) ≡ actor.Job n → job ≡ Some n
+    actor_or (turn_of s) slot (actor_or (turn_of_job s) job (later_or_never moment)) ≡ actor.Job n →
+    (job ≡ Some n) × (waits_for_load n s ≡ false)
 job_among s (Some slot) job moment n is = absurd (no_job_turn (dials (chan_at s slot)) slot n is)
-job_among s None (Some job) moment n is = let same : job ≡ n = cc is in ap Some same
+job_among s None (Some job) moment n is =
+    let turn = job_turn (waits_for_load job s) job n is in
+    (ap Some turn.1, subst (λ at. waits_for_load at s ≡ false) turn.1 turn.0)
 job_among s None None (Some moment) n is = absurd (cc is)
 job_among s None None None n is = absurd (cc is)
+
+load_among : (s : Switch) (slot job moment : Option ℕ) (n : ℕ) →
+    actor_or (turn_of s) slot (actor_or (turn_of_job s) job (later_or_never moment)) ≡ actor.Load n → waits_for_load n s ≡ true
+load_among s (Some slot) job moment n is = absurd (no_load_turn (dials (chan_at s slot)) slot n is)
+load_among s None (Some job) moment n is =
+    let turn = load_turn (waits_for_load job s) job n is in subst (λ at. waits_for_load at s ≡ true) turn.1 turn.0
+load_among s None None (Some moment) n is = absurd (cc is)
+load_among s None None None n is = absurd (cc is)
 
 -- the slot that has something to do does it
 pub slot_accepted : (s : Switch) (now slot : ℕ) → next_due now s ≡ actor.Slot slot → refused_act (Work slot) (at_moment now s) ≡ None
@@ -167,21 +205,31 @@ dial_accepted s now slot linked is =
     dial_accepted_for (dial_at t slot)
     (dial_among t (due_slot t) (due_job t) (lesser (first_chan_moment t) (first_job_moment t)) slot is)
 
--- and so does the job
+-- and so does the job, where it waits for no load
 pub job_accepted : (s : Switch) (now number : ℕ) → AreKnown s → next_due now s ≡ actor.Job number →
     refused_act (Works number) (at_moment now s) ≡ None
 unfolding next_due
 job_accepted s now number are is =
     let t = at_moment now s in
-    job_works t number (record { known = are.known })
-    (job_among t (due_slot t) (due_job t) (lesser (first_chan_moment t) (first_job_moment t)) number is)
+    let among = job_among t (due_slot t) (due_job t) (lesser (first_chan_moment t) (first_job_moment t)) number is in
+    ap (λ (waits : Bool). refused_where waits (refusal.NotDue None) (not_due (job_due number t))) among.1
+    ∙ job_works t number (record { known = are.known }) among.0
+
+-- for the one that waits for a load one is noted
+pub load_accepted : (s : Switch) (now number : ℕ) (note : LoadNote) → next_due now s ≡ actor.Load number →
+    refused_act (Loaded number note) (at_moment now s) ≡ None
+unfolding next_due
+load_accepted s now number note is =
+    let t = at_moment now s in
+    ap (λ (waits : Bool). refused_where (not waits) (refusal.NotDue None) None)
+    (load_among t (due_slot t) (due_job t) (lesser (first_chan_moment t) (first_job_moment t)) number is)
 
 -- ---- what is due later
 
 later_among : (s : Switch) (slot job found : Option ℕ) (moment : ℕ) →
-    actor_or (turn_of s) slot (actor_or actor.Job job (later_or_never found)) ≡ actor.Later moment → found ≡ Some moment
+    actor_or (turn_of s) slot (actor_or (turn_of_job s) job (later_or_never found)) ≡ actor.Later moment → found ≡ Some moment
 later_among s (Some slot) job found moment is = absurd (no_later_turn (dials (chan_at s slot)) slot moment is)
-later_among s None (Some job) found moment is = absurd (cc is)
+later_among s None (Some job) found moment is = absurd (job_no_later (waits_for_load job s) job moment is)
 later_among s None None (Some found) moment is = let same : found ≡ moment = cc is in ap Some same
 later_among s None None None moment is = absurd (cc is)
 
@@ -222,6 +270,7 @@ work_comes : (s : Switch) (now moment : ℕ) (work : JobWork) → work_due (reco
 work_comes s now moment Run is = absurd (cc)
 work_comes s now moment (Sleep until) is = ap Some (has_come_at now until moment (same_Some (due_at now until) (At moment) is))
 work_comes s now moment (Originate orig winner caller) is = orig_comes now moment (orig_of s orig) is
+work_comes s now moment Load is = absurd (cc)
 
 -- a caller is there at once, if there is one
 wants_come : (s : Switch) (now moment : ℕ) (c : Chan) (wanted : Option Text) →
@@ -261,6 +310,7 @@ abbrev pub IsDue : DueActor → Type 0
 IsDue (actor.Slot slot) = Unit {0}
 IsDue (actor.Dial slot) = Unit {0}
 IsDue (actor.Job number) = Unit {0}
+IsDue (actor.Load number) = Unit {0}
 IsDue (actor.Later moment) = ⊥
 IsDue actor.Never = ⊥
 
@@ -268,12 +318,16 @@ turn_is_due : (waits : Bool) (slot : ℕ) → IsDue (if waits then actor.Dial sl
 turn_is_due true slot = tt
 turn_is_due false slot = tt
 
+job_turn_is_due : (loads : Bool) (number : ℕ) → IsDue (if loads then actor.Load number else actor.Job number)
+job_turn_is_due true number = tt
+job_turn_is_due false number = tt
+
 slot_is_due : (s : Switch) (seat : ℕ) → is_due s (held_in s.channels seat) ≡ true → IsDue (due_among_all s)
 slot_is_due s seat due = by (due_slot s) refl
   where
     by : (found : Option ℕ) → due_slot s ≡ found →
         IsDue (actor_or (turn_of s) found
-        (actor_or actor.Job (due_job s) (later_or_never (lesser (first_chan_moment s) (first_job_moment s)))))
+        (actor_or (turn_of_job s) (due_job s) (later_or_never (lesser (first_chan_moment s) (first_job_moment s)))))
     by (Some slot) is = turn_is_due (dials (chan_at s slot)) slot
     by None is = absurd (both_ways (is_due s (held_in s.channels seat)) (none_found (is_due s) refl s.channels 0 is seat) due)
 
@@ -281,9 +335,9 @@ job_is_due : (s : Switch) (seat number : ℕ) → due_number s (held_in s.jobs s
 job_is_due s seat number due = by (due_slot s) (due_job s) refl
   where
     by : (slot job : Option ℕ) → due_job s ≡ job →
-        IsDue (actor_or (turn_of s) slot (actor_or actor.Job job (later_or_never (lesser (first_chan_moment s) (first_job_moment s)))))
+        IsDue (actor_or (turn_of s) slot (actor_or (turn_of_job s) job (later_or_never (lesser (first_chan_moment s) (first_job_moment s)))))
     by (Some slot) job is = turn_is_due (dials (chan_at s slot)) slot
-    by None (Some job) is = tt
+    by None (Some job) is = job_turn_is_due (waits_for_load job s) job
     by None None is = absurd (none-some number (sym (least_never (due_number s) s.jobs refl is seat) ∙ due))
 
 due_behind : (s : Switch) (now moment : ℕ) → due_among_all (record s { moment = now }) ≡ actor.Later moment →

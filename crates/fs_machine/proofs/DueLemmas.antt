@@ -14,12 +14,13 @@ use Rattle.fs_seats.specs.Least.{lesser}
 use Rattle.fs_seats.proofs.LeastLemmas.{IsAfter, lesser_after, least_after}
 use Rattle.fs_state.specs.declared.job.Job.{Job}
 use Rattle.fs_state.specs.declared.job.JobWork.{JobWork}
-use Rattle.fs_state.specs.declared.job.JobWork.TheVariants.{Run, Sleep, Originate}
+use Rattle.fs_state.specs.declared.job.JobWork.TheVariants.{Run, Sleep, Originate, Load}
 use Rattle.fs_state.specs.Queues.{has_caller}
 use Rattle.fs_state.specs.Switch.{Switch, chan_at, orig_of, at_moment}
 use Rattle.fs_machine.specs.declared.due.DueActor.TheVariants as actor
 use Rattle.fs_machine.specs.Due.{orig_due, due_wanting, due_by, work_due, later_of, chan_moment, row_moment, due_slot, due_job, first_chan_moment}
-use Rattle.fs_machine.specs.Due.{first_job_moment, actor_or, later_or_never, dials, turn_of, due_but_slots, due_among_all}
+use Rattle.fs_machine.specs.Due.{first_job_moment, actor_or, later_or_never, dials, turn_of, turn_of_job, due_but_slots, due_among_all}
+use Rattle.fs_machine.specs.Loading.{waits_for_load}
 
 later_at : (due : Option Due) (n : ℕ) → later_of due ≡ Some n → due ≡ Some (At n)
 later_at None n h = absurd (cc)
@@ -52,6 +53,7 @@ work_after : (s : Switch) (work : JobWork) (n : ℕ) → work_due s work ≡ Som
 work_after s Run n h = absurd (cc)
 work_after s (Sleep until) n h = to_come_at s.moment until n (cc)
 work_after s (Originate orig winner caller) n h = orig_after s.moment (orig_of s orig) n h
+work_after s Load n h = absurd (cc)
 
 row_after : (s : Switch) (row : Option (Numbered Job)) → IsAfter s.moment (row_moment s row)
 row_after s None n h = absurd (cc)
@@ -65,12 +67,20 @@ never_later : (dials : Bool) (slot moment : ℕ) → (if dials then actor.Dial s
 never_later true slot moment h = absurd (cc)
 never_later false slot moment h = absurd (cc)
 
+job_never_later : (loads : Bool) (number moment : ℕ) → (if loads then actor.Load number else actor.Job number) ≡ actor.Later moment → ⊥
+job_never_later true number moment h = absurd (cc)
+job_never_later false number moment h = absurd (cc)
+
 all_after : (s : Switch) (slot job : Option ℕ) (moment : ℕ) → due_slot s ≡ slot → due_job s ≡ job → due_among_all s ≡ actor.Later moment →
     s.moment < moment
 all_after s (Some slot) job moment is_slot is_job h =
     absurd (never_later (dials (chan_at s slot)) slot moment
     (ap (λ (found : Option ℕ). actor_or (turn_of s) found (due_but_slots s)) (sym is_slot) ∙ h))
-all_after s None (Some job) moment is_slot is_job h = absurd (cc)
+all_after s None (Some job) moment is_slot is_job h =
+    absurd (job_never_later (waits_for_load job s) job moment
+    (ap (λ (found : Option ℕ). actor_or (turn_of_job s) found (later_or_never (lesser (first_chan_moment s) (first_job_moment s))))
+    (sym is_job)
+    ∙ (ap (λ (found : Option ℕ). actor_or (turn_of s) found (due_but_slots s)) (sym is_slot) ∙ h)))
 all_after s None None moment is_slot is_job h =
     moment_after s.moment (lesser (first_chan_moment s) (first_job_moment s)) moment
     (lesser_after s.moment (first_chan_moment s) (first_job_moment s) (least_after s.moment (chan_moment s) (chan_after s) s.channels)

@@ -5,7 +5,7 @@ use Rattle.fs_text.specs.Texts.{Text}
 use Rattle.fs_state.specs.Switch.{Switch, waiting_for, with_frame_taken, at_moment, is_full}
 use Rattle.fs_machine.specs.declared.entry.Entry.{Entry}
 use Rattle.fs_machine.specs.declared.entry.Act.{Act}
-use Rattle.fs_machine.specs.declared.entry.Act.TheVariants.{Arrive, Command, Take, Close, Dialed, Work, Job, Halt}
+use Rattle.fs_machine.specs.declared.entry.Act.TheVariants.{Arrive, Command, Take, Close, Dialed, Work, Job, Loaded, Halt}
 use Rattle.fs_machine.specs.declared.reply.Reply.TheVariants as reply
 use Rattle.fs_machine.specs.declared.refusal.Refusal.TheVariants as refusal
 use Rattle.fs_machine.specs.Entries.{cost_of}
@@ -25,6 +25,7 @@ some_cost (Close conn how) = omega arith
 some_cost (Dialed slot linked) = omega arith
 some_cost (Work slot) = omega arith
 some_cost (Job number) = omega arith
+some_cost (Loaded number note) = omega arith
 some_cost Halt = omega arith
 
 -- what a journal with one more entry hands out

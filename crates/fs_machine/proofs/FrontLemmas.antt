@@ -42,7 +42,7 @@ use Rattle.fs_state.specs.declared.event.Event.{Event}
 use Rattle.fs_state.specs.declared.job.Asker.{Asker}
 use Rattle.fs_state.specs.declared.job.Asker.TheVariants as asker
 use Rattle.fs_state.specs.declared.job.JobWork.{JobWork}
-use Rattle.fs_state.specs.declared.job.JobWork.TheVariants.{Sleep, Originate}
+use Rattle.fs_state.specs.declared.job.JobWork.TheVariants.{Originate}
 use Rattle.fs_state.specs.Counts.{Tallies}
 use Rattle.fs_state.specs.Ending.{ended}
 use Rattle.fs_state.specs.Switch.{Switch, chan_at, with_chan, with_bridge, conn_of, with_new_conn, orig_of, next_orig_number}
@@ -83,6 +83,7 @@ use Rattle.fs_machine.proofs.WonLemmas.{bridge_won_kept}
 pub record Front : Type 0 where
   pub settings : Settings
   pub contexts : List Context
+  pub reloads : ℕ
   pub globals : Variables
   pub channels : List (Option Chan)
   pub bridges : BridgeRows
@@ -97,6 +98,7 @@ abbrev pub front_of : Switch → Front
 front_of s = record {
   settings = s.settings;
   contexts = s.contexts;
+  reloads = s.reloads;
   globals = s.globals;
   channels = s.channels;
   bridges = s.bridges;
@@ -454,7 +456,7 @@ module _ (before : Switch) (P : Fact) (same : (b : Stage) (t u : Switch) → P b
   api_same by = record {
     spent = births.spent;
     draws = λ {s = s} h. draws s h;
-    sleeps = λ until {s = s} may room h. same (Some 0) s _ (births.spent h) (begun_front by (Sleep until) s);
+    waits = λ what {s = s} wait may room h. same (Some 0) s _ (births.spent h) (begun_front by what s);
     originates = λ groups winner caller timeout {s = s} may are short room h. originates_same by groups winner caller timeout s h;
     leavings = λ {n = n} {s = s} h. same (Some n) s (after_leavings s) h refl;
     ends = λ reply notice {s = s} dead h. calls.more (same (Some 0) s (ended reply notice s) h refl);
@@ -470,7 +472,7 @@ module _ (before : Switch) (P : Fact) (same : (b : Stage) (t u : Switch) → P b
     jobs = record {
       out = λ number job {s = s} does h. same None s (without_job number s) h refl;
       runs = λ number job. api_same (giver.Job number job);
-      woken = λ number who until answer {s = s} does h. ended_same number who answer s h;
+      woken = λ number who what answer {s = s} wait does h. ended_same number who answer s h;
       failed = λ job who winner caller orig cause {s = s} does over h. over_same job who orig (failed_text cause) s h;
       wins = λ job who winner caller orig leg slots does won h.
           over_same job who orig (made_text leg.uuid) (after_winning winner (unwrap_or leg.slot 0) (raced slots before))

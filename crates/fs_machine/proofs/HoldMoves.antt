@@ -30,7 +30,7 @@ use Rattle.fs_state.specs.declared.conn.Parting.TheVariants as parting
 use Rattle.fs_state.specs.declared.job.Asker.{Asker}
 use Rattle.fs_state.specs.declared.job.Asker.TheVariants as asker
 use Rattle.fs_state.specs.declared.job.JobWork.{JobWork}
-use Rattle.fs_state.specs.declared.job.JobWork.TheVariants.{Sleep, Originate}
+use Rattle.fs_state.specs.declared.job.JobWork.TheVariants.{Originate}
 use Rattle.fs_state.specs.Switch.{Switch, chan_at, with_bridge, next_orig_number, without_orig, with_new_job, without_job}
 use Rattle.fs_state.specs.Moves.{after_move, orig_changed, leg_changed}
 use Rattle.fs_state.specs.Hangups.{legs_at, after_hangups}
@@ -299,9 +299,9 @@ module _ (before : Switch) (Q : Fact) (kept : KeptByMoves before Q) (bonds : (b 
   holding_api by q = record {
     spent = λ h. (q.spent h.0, h.1);
     draws = λ h. (q.draws h.0, h.1);
-    sleeps = λ until {s = s} may free h. (
-      q.sleeps until (goes_on_by Holding Q by s may (λ t k. k.0)) free h.0,
-      begun_held by (Sleep until) s h.1,
+    waits = λ what {s = s} wait may free h. (
+      q.waits what wait (goes_on_by Holding Q by s may (λ t k. k.0)) free h.0,
+      begun_held by what s h.1,
     );
     originates = λ groups winner caller timeout {s = s} may are short free h. (
       q.originates groups winner caller timeout (goes_on_by Holding Q by s may (λ t k. k.0)) are short free h.0,
@@ -315,8 +315,8 @@ module _ (before : Switch) (Q : Fact) (kept : KeptByMoves before Q) (bonds : (b 
   holding_jobs = record {
     out = λ number job does h. (kept.jobs.out number job does h.0, h.1);
     runs = λ number job. holding_api (giver.Job number job) (kept.jobs.runs number job);
-    woken = λ number who until answer {s = s} does h. (
-      kept.jobs.woken number who until answer does h.0,
+    woken = λ number who what answer {s = s} wait does h. (
+      kept.jobs.woken number who what answer wait does h.0,
       ended_held number who answer s h.1,
     );
     failed = λ job who winner caller orig cause {s = s} does over h. (

@@ -117,4 +117,4 @@ module _ (before : Switch) where
 
   -- so an act joins no more than one
   pub acted_joins : (act : Act) → (act_done act before).state.bridges.drawn ≤ before.bridges.drawn + 1
-  acted_joins act = acted_kept before (Counting before) counting_moves act refl
+  acted_joins act = acted_kept before (Counting before) counting_moves act (λ loads config t h. h) refl

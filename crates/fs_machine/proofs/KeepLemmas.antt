@@ -29,14 +29,15 @@ use Rattle.fs_state.specs.declared.conn.Parting.TheVariants as parting
 use Rattle.fs_state.specs.declared.job.Asker.{Asker}
 use Rattle.fs_state.specs.declared.job.Asker.TheVariants as asker
 use Rattle.fs_state.specs.declared.job.JobWork.{JobWork}
-use Rattle.fs_state.specs.declared.job.JobWork.TheVariants.{Sleep, Originate}
+use Rattle.fs_state.specs.declared.job.JobWork.TheVariants.{Originate}
 use Rattle.fs_state.specs.Switch.{Switch, chan_at, conn_of, next_orig_number, with_new_job, without_job}
-use Rattle.fs_state.specs.Switch.{with_next_identifier}
+use Rattle.fs_state.specs.Switch.{with_next_identifier, reloaded}
 use Rattle.fs_state.specs.Switch.{without_orig, with_frame_now, with_notice, with_event}
 use Rattle.fs_state.specs.Ending.{released, released_in, ended}
 use Rattle.fs_machine.specs.declared.entry.Act.{Act}
 use Rattle.fs_machine.specs.declared.entry.Act.TheVariants as act
 use Rattle.fs_machine.specs.declared.entry.Closing.TheVariants as closing
+use Rattle.fs_machine.specs.declared.note.LoadNote.{LoadNote}
 use Rattle.fs_machine.specs.Texts.{made_text, failed_text}
 use Rattle.fs_machine.specs.Connections.{conn_changed_from, conn_changed, admitted, parted, owed_since, not_owed, phase_of, phase_at}
 use Rattle.fs_machine.specs.Connections.{with_subs_changed}
@@ -47,6 +48,7 @@ use Rattle.fs_machine.specs.Jobs.{job_done}
 use Rattle.fs_machine.specs.declared.owing.Giver.{Giver}
 use Rattle.fs_machine.specs.declared.owing.Giver.TheVariants as giver
 use Rattle.fs_machine.specs.Owing.{job_number, after_job_begin, background_begun, after_job_end}
+use Rattle.fs_machine.specs.Loading.{after_load}
 use Rattle.fs_machine.specs.Commands.{command_done}
 use Rattle.fs_machine.specs.Work.{after_work}
 use Rattle.fs_machine.specs.Hangups.{all_slots, after_hangup_of_all}
@@ -58,6 +60,7 @@ use Rattle.fs_machine.proofs.ControlLemmas.{behind_held, behind_numbers, left_of
 use Rattle.fs_machine.proofs.Walk.{let_go_kept}
 use Rattle.fs_machine.proofs.Kept.{Fact, KeptByCalls, raced, KeptByApi, KeptByJobs, KeptByDials, LeavesBy, KeptByCommands}
 use Rattle.fs_machine.proofs.RestLemmas.{Rest, rest_of, calls_by_rest, dials_by_rest, group_made_rest, worked_rest, won_rest, hung_rest}
+use Rattle.fs_machine.proofs.LoadLemmas.{load_kept}
 use Rattle.fs_machine.proofs.ActWalk.{job_kept, commanded_kept}
 use Rattle.fs_machine.proofs.StopLemmas.{let_off, released_held, released_numbers, ended_conn}
 
@@ -423,8 +426,8 @@ calls_keep who s = calls_by_rest (KeepsFrom who s) (λ b t u h same. keeps_on s 
 
 -- api commands
 module _ (by : Giver) (s : Switch) where
-  sleeps_keep : (until : ℕ) {t : Switch} → Keeps (acting by) false s t → Keeps (acting by) false s (after_job_begin by (Sleep until) t)
-  sleeps_keep until {t} h = keeps_trans s t (after_job_begin by (Sleep until) t) h (owing_keeps by (Sleep until) t)
+  waits_keep : (what : JobWork) {t : Switch} → Keeps (acting by) false s t → Keeps (acting by) false s (after_job_begin by what t)
+  waits_keep what {t} h = keeps_trans s t (after_job_begin by what t) h (owing_keeps by what t)
 
   originates_keep : (groups : List (List LegPlan)) (winner : Winner) (caller : Caller) (timeout : Option ℕ) {t : Switch} →
       Keeps (acting by) false s t → Keeps (acting by) false s (originate_begun by groups winner caller timeout t)
@@ -438,7 +441,7 @@ module _ (by : Giver) (s : Switch) where
   api_keep = record {
     spent = λ h. h;
     draws = λ {s = t} h. keeps_on s t (with_next_identifier t) h refl;
-    sleeps = λ until may room h. sleeps_keep until h;
+    waits = λ what wait may room h. waits_keep what h;
     originates = λ groups winner caller timeout may are short room h. originates_keep groups winner caller timeout h;
     leavings = λ {s = t} h. keeps_left s t h;
     ends = λ reply notice {s = t} dead h. keeps_trans s t (ended reply notice t) h (stop_keeps reply notice t);
@@ -464,7 +467,7 @@ module _ (s : Switch) where
   jobs_keep = record {
     out = λ number job {s = t} does h. keeps_on s t (without_job number t) h refl;
     runs = λ number job. api_keep (giver.Job number job) s;
-    woken = λ number who until answer {s = t} does h. keeps_trans s t (after_job_end number who answer t) h
+    woken = λ number who what answer {s = t} wait does h. keeps_trans s t (after_job_end number who answer t) h
         (ended_keeps number who answer t);
     failed = λ job who winner caller orig cause {s = t} does over h. over_keeps job who orig (failed_text cause) t t refl h;
     wins = λ job who winner caller orig leg slots does won h. wins_keep job who orig winner leg (raced slots s) h;
@@ -525,6 +528,13 @@ work_keeps slot s = keeps_same s (after_work slot s) (sockets_same s (after_work
 job_done_keeps : (number : ℕ) (s : Switch) → Keeps None false s (job_done number s)
 job_done_keeps number s = job_kept s (KeepsFrom None s) (calls_keep None s) (dials_keep s) (jobs_keep s) number (keeps_refl s) (keeps_refl s)
 
+load_keeps : (what : LoadNote) (number : ℕ) (s : Switch) → Keeps None false s (after_load what number s)
+load_keeps what number s =
+    load_kept (λ (t : Switch). Keeps None false s t) (λ (t : Switch). Keeps None false s t)
+    (λ config globals t h. keeps_on s t (record (reloaded config t) { globals = globals }) h refl) (λ t h. h)
+    (λ job who answer t does h. keeps_trans s t (after_job_end job who answer t) h (ended_keeps job who answer t)) what number s
+    (keeps_refl s)
+
 commanded_keeps : (conn : ℕ) (command : Command) (s : Switch) → Keeps (Some conn) false s (command_done conn command s)
 commanded_keeps conn command s =
     commanded_kept conn (KeepsFrom (Some conn) s) (calls_keep (Some conn) s) (commands_keep conn s) command {s = s} (keeps_refl s)
@@ -579,5 +589,6 @@ act_keeps (act.Command conn block) s =
 act_keeps (act.Close conn closing.EndOfInput) s = keeps_left s (after_close closing.EndOfInput conn s) (silent_keeps conn s)
 act_keeps (act.Work slot) s = keeps_left s (after_work slot s) (work_keeps slot s)
 act_keeps (act.Job number) s = keeps_left s (job_done number s) (job_done_keeps number s)
+act_keeps (act.Loaded number note) s = keeps_left s (after_load note number s) (load_keeps note number s)
 act_keeps act.Halt s = keeps_left s (after_shutdown s) (halt_keeps s)
 act_keeps _ s = tt

@@ -6,6 +6,7 @@ use Rattle.fs_text.specs.declared.causes.Cause.{Cause}
 use Rattle.fs_text.specs.declared.causes.Cause.TheVariants.{LoseRace}
 use Rattle.fs_vars.specs.Pairs.{value_of}
 use Rattle.fs_vars.specs.Variables.{Variables}
+use Rattle.fs_doc.specs.Reading.{Configuration}
 use Rattle.fs_filter.specs.Subscriptions.{Subscription}
 use Rattle.fs_bridge.specs.declared.row.BridgeKind.{BridgeKind}
 use Rattle.fs_bridge.specs.Closure.{Members}
@@ -42,6 +43,7 @@ use Rattle.fs_state.specs.Switch.{Switch, chan_at, with_chan, bridge_at, is_full
 use Rattle.fs_state.specs.Switch.{with_frame_taken}
 use Rattle.fs_state.specs.Switch.{with_event}
 use Rattle.fs_state.specs.Switch.{next_orig_number, orig_of, without_orig, with_frame_now, with_notice, with_next_identifier}
+use Rattle.fs_state.specs.Switch.{reloaded}
 use Rattle.fs_state.specs.Ending.{ended}
 use Rattle.fs_state.specs.Moves.{orig_changed, leg_changed}
 use Rattle.fs_state.specs.Hangups.{lives_at, after_hangups, after_hangups_for}
@@ -202,6 +204,13 @@ pub record KeptByBirths (P : Fact) : Type 0 where
 
 -- ---- moves of those who try originations
 
+-- such work is to wait, and then to answer
+abbrev pub IsWait : JobWork → Type 0
+IsWait work.Run = ⊥
+IsWait (work.Sleep until) = Unit {0}
+IsWait (work.Originate orig winner caller) = ⊥
+IsWait work.Load = Unit {0}
+
 -- a job of this number does this work for whoever is told its answer
 pub record DoesJob (s : Switch) (number : ℕ) (who : Asker) (what : JobWork) : Type 0 where
   pub there : job_of s number ≡ Some (record { asker = who; work = what })
@@ -280,8 +289,8 @@ AreDead s = (slot : ℕ) → lives_at s slot ≡ false
 pub record KeptByApi (by : Giver) (P : Fact) : Type 0 where
   pub spent : {s : Switch} → P None s → P (Some 0) s
   pub draws : {s : Switch} → P None s → P (Some 1) (with_next_identifier s)
-  pub sleeps : (until : ℕ) {s : Switch} → MayGoOn P by s → is_full_of_jobs s ≡ false → P None s →
-      P (Some 0) (after_job_begin by (work.Sleep until) s)
+  pub waits : (what : JobWork) {s : Switch} → IsWait what → MayGoOn P by s → is_full_of_jobs s ≡ false → P None s →
+      P (Some 0) (after_job_begin by what s)
   pub originates : (groups : List (List LegPlan)) (winner : Winner) (caller : Caller) (timeout : Option ℕ) {s : Switch} →
       MayGoOn P by s → AreGroups groups → IsShortWinner winner → is_full_of_jobs s ≡ false → P None s →
       P (Some 0) (originate_begun by groups winner caller timeout s)
@@ -293,8 +302,8 @@ pub record KeptByJobs (before : Switch) (P : Fact) : Type 0 where
   pub out : (number : ℕ) (job : Background) {s : Switch} → DoesJob s number (asker.Background job) work.Run → P None s →
       P None (without_job number s)
   pub runs : (number : ℕ) (job : Background) → KeptByApi (giver.Job number job) P
-  pub woken : (number : ℕ) (who : Asker) (until : ℕ) (answer : Text) {s : Switch} → DoesJob s number who (work.Sleep until) → P (Some 0) s →
-      P (Some 0) (after_job_end number who answer s)
+  pub woken : (number : ℕ) (who : Asker) (what : JobWork) (answer : Text) {s : Switch} → IsWait what → DoesJob s number who what →
+      P (Some 0) s → P (Some 0) (after_job_end number who answer s)
   pub failed : (job : ℕ) (who : Asker) (winner : Winner) (caller : Caller) (orig : ℕ) (cause : Cause) {s : Switch} →
       DoesJob s job who (work.Originate orig winner caller) → IsOver before s orig → P (Some 0) s →
       P (Some 0) (failed_for (party.Job job who winner caller) orig cause s)
@@ -376,3 +385,8 @@ pub record KeptByMoves (before : Switch) (P : Fact) : Type 0 where
   pub dials : KeptByDials before P
   pub commands : (conn : ℕ) → KeptByCommands conn P
   pub visits : KeptByVisits P
+
+-- Such a fact is kept too where other contexts come into force. Only a load does that, so this stands beside the moves: what sees which
+-- contexts are in force holds of every entry but a load.
+abbrev pub KeptByReload : Fact → Type 0
+KeptByReload P = (config : Configuration) (s : Switch) → P (Some 0) s → P (Some 0) (reloaded config s)

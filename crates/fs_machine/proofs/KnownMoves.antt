@@ -23,7 +23,7 @@ use Rattle.fs_state.specs.declared.job.Asker.TheVariants as asker
 use Rattle.fs_state.specs.declared.job.Background.{Background}
 use Rattle.fs_state.specs.declared.job.Job.{Job}
 use Rattle.fs_state.specs.declared.job.JobWork.{JobWork}
-use Rattle.fs_state.specs.declared.job.JobWork.TheVariants.{Run, Sleep, Originate}
+use Rattle.fs_state.specs.declared.job.JobWork.TheVariants.{Run, Originate}
 use Rattle.fs_state.specs.Switch.{Switch, chan_at, next_orig_number, is_full_of_jobs, without_orig, with_new_job, without_job}
 use Rattle.fs_state.specs.Switch.{with_frame_now, with_notice}
 use Rattle.fs_state.specs.Moves.{after_move}
@@ -157,7 +157,7 @@ early_api : (before : Switch) (by : Giver) → KeptByApi by (Early before)
 early_api before by = record {
   spent = λ {s = s} h. early_spent before s h;
   draws = λ {s = s} h. early_spent before s h;
-  sleeps = λ until {s = s} may room h. begun_early before by (Sleep until) s (early_spent before s h);
+  waits = λ what {s = s} wait may room h. begun_early before by what s (early_spent before s h);
   originates = λ groups winner caller timeout {s = s} may are short room h. originated_early before by groups winner caller timeout s h;
   leavings = λ h. h;
   ends = λ reply notice dead h. h;
@@ -169,7 +169,7 @@ early_moves before = record {
   jobs = record {
     out = λ number job {s = s} does h. out_early before number job s does h;
     runs = λ number job. early_api before (giver.Job number job);
-    woken = λ number who until answer {s = s} does h. ended_early before number who answer s h;
+    woken = λ number who what answer {s = s} wait does h. ended_early before number who answer s h;
     failed = λ job who winner caller orig cause {s = s} does over h. ended_early before job who (failed_text cause) (without_orig orig s) h;
     wins = λ job who winner caller orig leg slots does won h.
         let s : Switch = raced slots before in

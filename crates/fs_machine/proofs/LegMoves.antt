@@ -32,7 +32,7 @@ use Rattle.fs_state.specs.declared.conn.Parting.TheVariants as parting
 use Rattle.fs_state.specs.declared.job.Asker.{Asker}
 use Rattle.fs_state.specs.declared.job.Asker.TheVariants as asker
 use Rattle.fs_state.specs.declared.job.JobWork.{JobWork}
-use Rattle.fs_state.specs.declared.job.JobWork.TheVariants.{Sleep, Originate}
+use Rattle.fs_state.specs.declared.job.JobWork.TheVariants.{Originate}
 use Rattle.fs_state.specs.Switch.{Switch, chan_at, with_chan, next_orig_number, orig_of, without_orig, with_new_job, without_job}
 use Rattle.fs_state.specs.Switch.{with_bridge, with_new_conn}
 use Rattle.fs_state.specs.Moves.{after_move_from, orig_changed_from, orig_changed, leg_changed, with_changed_chan, after_move}
@@ -433,7 +433,7 @@ legs_api : (by : Giver) → KeptByApi by Legs
 legs_api by = record {
   spent = λ h. h;
   draws = λ h. h;
-  sleeps = λ until {s = s} may room h. same_roles s (after_job_begin by (Sleep until) s) (begun_roles by (Sleep until) s) h;
+  waits = λ what {s = s} wait may room h. same_roles s (after_job_begin by what s) (begun_roles by what s) h;
   originates = λ groups winner caller timeout {s = s} may are short room h. originates_legs by groups winner caller timeout s h;
   leavings = λ h. h;
   ends = λ reply notice {s = s} dead h few. no_legs s.channels (length s.origs) s.drawn.origs;
@@ -461,7 +461,7 @@ module _ (before : Switch) (stand : LegsStand (roles_of before)) where
     jobs = record {
       out = λ number job does h. h;
       runs = λ number job. legs_api (giver.Job number job);
-      woken = λ number who until answer {s = s} does h. ended_legs number who answer s h;
+      woken = λ number who what answer {s = s} wait does h. ended_legs number who answer s h;
       failed = λ job who winner caller orig cause {s = s} does over h. ended_legs job who (failed_text cause) (without_orig orig s)
           (λ few. without_legs orig s (h few));
       wins = λ job who winner caller orig leg slots does won h.

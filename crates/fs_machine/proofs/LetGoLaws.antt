@@ -45,7 +45,7 @@ acted_ends entry s h quiet =
       told = λ row cause event one is. absurd (none_told s.news quiet.over row cause event one is);
       gone = λ e none. absurd none;
     }))
-    entry.act
+    entry.act (λ loads config t k. k)
     (record {
       same = refl;
       there = λ slot row is. let leg = h.bonds.legs slot row is in record { chan = leg.chan; there = leg.there };

@@ -29,6 +29,7 @@ pub mod WonLemmas
 pub mod RestLemmas
 pub mod DrawnLemmas
 pub mod FrontLemmas
+pub mod LoadLemmas
 pub mod ActWalk
 pub mod JoinMoves
 pub mod ConstantMoves
@@ -117,6 +118,8 @@ pub mod LetGoLaws
 pub mod BehindLemmas
 pub mod ArrivalLemmas
 pub mod QuietLemmas
+pub mod InForceLemmas
+pub mod BringLemmas
 pub mod TouchLemmas
 pub mod RouteLemmas
 pub mod OfferLemmas

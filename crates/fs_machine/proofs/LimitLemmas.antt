@@ -1,7 +1,7 @@
 -- The variables of a channel keep their limits, whatever is set and taken out, and so the machine can always set its own.
 use Rattle.std.proofs.Common.{◌≡◌, ◌+◌, ◌≤◌, ◌==◌, Bool, true, false, not, ◌&&◌, ◌||◌, if◌then◌else◌, List, [], ◌∷◌, length, filter}
 use Rattle.std.proofs.Common.{count_by, sum_by, Option, None, Some, Ok, Err, codes, refl, sym, ap, subst, ◌∙◌, arith}
-use Rattle.std.specs.Prelude.{nat_le}
+use Rattle.std.specs.Prelude.{ℤ, nat_le}
 use Rattle.std.proofs.lemmas.Bool.{leb-true, le-leb, and_from, and_parts}
 use Rattle.std.proofs.lemmas.Option.{none-some, same_Some}
 use Rattle.std.proofs.lemmas.List.Filters.{sum_by-filter_both}
@@ -241,10 +241,10 @@ extensions_limited profile (extension ∷ more) s h =
     either (looked.taken && not extension.goes_on) (Ok looked.so_far) (extensions_done profile more looked.so_far) k
     (extensions_limited profile more looked.so_far k))
 
-pub hunted_limited : (contexts : List Context) (name : Text) (profile : Profile) (vars globals : Variables) → AreLimited vars →
-    Comes HuntLimited (hunted contexts name profile vars globals)
+pub hunted_limited : (contexts : List Context) (name : Text) (profile : Profile) (vars globals : Variables) (wall : ℤ) → AreLimited vars →
+    Comes HuntLimited (hunted contexts name profile vars globals wall)
 unfolding hunted
-hunted_limited contexts name profile vars globals h =
+hunted_limited contexts name profile vars globals wall h =
     extensions_limited profile (extensions_of contexts name) (new_hunt vars globals) h
 
 -- what was found, unless a text is too long

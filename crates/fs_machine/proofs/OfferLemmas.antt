@@ -13,11 +13,11 @@ use Rattle.fs_machine.specs.Turned.{IsJournal, Declines}
 -- an entry is refused behind a run
 pub declined_before : (config : Configuration) (log : List Entry) (entry : Entry) (why : RouteRefusal) →
     Declines config log (offer.Entry entry) why → IsJournal config log
-declined_before config log entry (Again touched) declined = absurd declined
+declined_before config log entry (Again touched reloads wall) declined = absurd declined
 declined_before config log entry (Step why) declined = declined.before
 
 -- a plan is refused so behind a run
 pub declined_route : (m : View) (moment slot : ℕ) (plan : Plan) (why : RouteRefusal) → IsJournal m.config m.journal →
     IsRouteRefusal m moment slot plan why → Declines m.config m.journal (offer.Route moment slot plan) why
-declined_route m moment slot plan (Again touched) run cause = record { before = run; other = cause.0; count = cause.1 }
+declined_route m moment slot plan (Again touched reloads wall) run cause = record { before = run; other = cause.0; present = cause.1 }
 declined_route m moment slot plan (Step why) run cause = (record { before = run; cause = cause.1 }, cause.0)

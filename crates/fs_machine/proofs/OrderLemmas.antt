@@ -1,7 +1,7 @@
 -- Behind the entries of a run the connections and their outboxes fit together.
-use Rattle.std.proofs.Common.{◌≡◌, ℕ, ◌+◌, ◌*◌, ◌-◌, ◌^◌, ◌<◌, ◌≤◌, min, Bool, true, false, List, [], ◌∷◌, Option, None, refl, sym, ap}
+use Rattle.std.proofs.Common.{◌≡◌, ℕ, ◌+◌, ◌*◌, ◌-◌, ◌^◌, ◌<◌, ◌≤◌, min, Bool, true, false, if◌then◌else◌, List, [], ◌∷◌, Option, None, refl, sym, ap}
 use Rattle.std.proofs.Common.{◌⊎◌, inl, inr, subst, ◌∙◌, arith}
-use Rattle.std.proofs.lemmas.Bool.{both_ways, ltb-false}
+use Rattle.std.proofs.lemmas.Bool.{both_ways, ltb-false, ltb-true}
 use Rattle.fs_doc.specs.Reading.{Configuration}
 use Rattle.fs_seats.specs.declared.numbered.Numbered.{Numbered}
 use Rattle.fs_seats.specs.Seats.{held_in}
@@ -12,7 +12,7 @@ use Rattle.fs_doc.specs.declared.settings.Settings.{Settings}
 use Rattle.fs_state.specs.declared.conn.Conn.{Conn}
 use Rattle.fs_state.specs.Frames.{texts_of}
 use Rattle.fs_state.specs.Posting.{with_posts}
-use Rattle.fs_state.specs.Switch.{Switch, empty, waiting_at, outgoing_for, waiting_for, at_moment, after_entry, is_full}
+use Rattle.fs_state.specs.Switch.{Switch, empty, waiting_at, outgoing_for, waiting_for, at_moment, after_entry, is_full, is_full_for_load}
 use Rattle.fs_state.specs.Switch.{with_frame_taken, without_conn}
 use Rattle.fs_state.proofs.GiftLemmas.{none_waits, as_many}
 use Rattle.fs_machine.specs.declared.entry.Entry.{Entry}
@@ -20,10 +20,9 @@ use Rattle.fs_machine.specs.declared.entry.Act.{Act}
 use Rattle.fs_machine.specs.declared.entry.Act.TheVariants.{Arrive, Take, Close, Dialed}
 use Rattle.fs_machine.specs.declared.entry.Closing.TheVariants.{Sent, Failed}
 use Rattle.fs_machine.specs.declared.refusal.Refusal.{Refusal}
-use Rattle.fs_machine.specs.declared.refusal.Refusal.TheVariants as refusal
-use Rattle.fs_machine.specs.Entries.{cost_of}
+use Rattle.fs_machine.specs.Entries.{cost_of, is_load}
 use Rattle.fs_machine.specs.Controlling.{after_dial, after_letting_go, after_leavings}
-use Rattle.fs_machine.specs.Step.{refused_where, refused_act, refusal_of, arrived, acted, act_done, step}
+use Rattle.fs_machine.specs.Step.{refused_where, refused_act, is_full_for, full_journal, refusal_of, arrived, acted, act_done, step}
 use Rattle.fs_machine.specs.Runs.{run_from, IsRunFrom}
 use Rattle.fs_machine.proofs.ConstantMoves.{Constants, acted_constants}
 use Rattle.fs_machine.proofs.RestLemmas.{Rest}
@@ -154,18 +153,32 @@ pub none_refused : (test : Bool) (why : Refusal) (otherwise : Option Refusal) �
 none_refused true why otherwise none = absurd (cc)
 none_refused false why otherwise none = (refl, none)
 
+-- what has room for a load has room for each other entry
+pub room_for_load : (s : Switch) → is_full_for_load s ≡ false → is_full s ≡ false
+room_for_load s below =
+    let room : s.cost + 1048641 ≤ s.settings.journal_limit = ltb-false s.settings.journal_limit (s.cost + 1048641) below in
+    lower (is_full s) refl room
+  where
+    lower : (full : Bool) → is_full s ≡ full → s.cost + 1048641 ≤ s.settings.journal_limit → full ≡ false
+    lower true is room = absurd (omega (arith, ltb-true s.settings.journal_limit (s.cost + 65600) is, room))
+    lower false is room = refl
+
+-- whichever of both it was
+room_for : (load : Bool) (s : Switch) → (if load then is_full_for_load s else is_full s) ≡ false → is_full s ≡ false
+room_for true s below = room_for_load s below
+room_for false s below = below
+
 -- an entry that is not refused came where the journal was not full, and its act is not refused
 pub not_full : (s : Switch) (entry : Entry) → refusal_of s entry ≡ None → is_full s ≡ false
 unfolding refusal_of
 not_full s entry none =
-    (none_refused (is_full s) (refusal.JournalFull s.cost s.settings.journal_limit)
-    (refused_act entry.act (at_moment entry.moment s)) none).0
+    room_for (is_load entry.act) s
+    (none_refused (is_full_for entry.act s) (full_journal s) (refused_act entry.act (at_moment entry.moment s)) none).0
 
 pub not_refused : (s : Switch) (entry : Entry) → refusal_of s entry ≡ None → refused_act entry.act (at_moment entry.moment s) ≡ None
 unfolding refusal_of
 not_refused s entry none =
-    (none_refused (is_full s) (refusal.JournalFull s.cost s.settings.journal_limit)
-    (refused_act entry.act (at_moment entry.moment s)) none).1
+    (none_refused (is_full_for entry.act s) (full_journal s) (refused_act entry.act (at_moment entry.moment s)) none).1
 
 -- ---- between entries
 

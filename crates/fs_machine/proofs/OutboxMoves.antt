@@ -21,7 +21,7 @@ use Rattle.fs_state.specs.Frames.{Gift}
 use Rattle.fs_state.specs.declared.job.Asker.{Asker}
 use Rattle.fs_state.specs.declared.job.Asker.TheVariants as asker
 use Rattle.fs_state.specs.declared.job.JobWork.{JobWork}
-use Rattle.fs_state.specs.declared.job.JobWork.TheVariants.{Sleep, Originate}
+use Rattle.fs_state.specs.declared.job.JobWork.TheVariants.{Originate}
 use Rattle.fs_state.specs.Frames.{Reply}
 use Rattle.fs_state.specs.Drawn as numbers
 use Rattle.fs_state.specs.Frames.{Frames, is_event, events_in}
@@ -183,7 +183,7 @@ replying_api : (by : Giver) → KeptByApi by Replying
 replying_api by = record {
   spent = λ h. h;
   draws = λ h. h;
-  sleeps = λ until {s = s} may room h. owing_replies by (Sleep until) s h;
+  waits = λ what {s = s} wait may room h. owing_replies by what s h;
   originates = λ groups winner caller timeout {s = s} may are short room h. originates_replies by groups winner caller timeout s h;
   leavings = λ {s = s} h. left_replies s h;
   ends = λ reply notice {s = s} dead h. stopped_replies reply notice s h;
@@ -195,7 +195,7 @@ replying_moves before = record {
   jobs = record {
     out = λ number job does h. h;
     runs = λ number job. replying_api (giver.Job number job);
-    woken = λ number who until answer {s = s} does h. ended_replies number who answer s h;
+    woken = λ number who what answer {s = s} wait does h. ended_replies number who answer s h;
     failed = λ job who winner caller orig cause {s = s} does over h. ended_replies job who (failed_text cause) (without_orig orig s) h;
     wins = λ job who winner caller orig leg slots does won h.
         let t : Switch = raced slots before in
@@ -224,7 +224,7 @@ replying_moves before = record {
 }
 
 acted_replies : (act : Act) (s : Switch) → Replies s → Replies (act_done act s).state
-acted_replies act s h = acted_kept s Replying (replying_moves s) act h
+acted_replies act s h = acted_kept s Replying (replying_moves s) act (λ loads config t k. k) h
 
 -- ---- what waits
 

@@ -24,6 +24,7 @@ use Rattle.fs_state.specs.declared.conn.Parting.TheVariants as parting
 use Rattle.fs_state.specs.declared.job.Asker.{Asker}
 use Rattle.fs_state.specs.declared.job.Asker.TheVariants as asker
 use Rattle.fs_state.specs.declared.job.Background.{Background}
+use Rattle.fs_state.specs.declared.job.JobWork.{JobWork}
 use Rattle.fs_state.specs.declared.job.JobWork.TheVariants as work
 use Rattle.fs_state.specs.Switch.{Switch, conn_of, is_full_of_jobs, without_job, without_orig, with_frame_now, with_notice}
 use Rattle.fs_state.specs.Switch.{next_orig_number, with_event}
@@ -47,16 +48,17 @@ use Rattle.fs_machine.specs.Controlling.{controller, after_dial, after_letting_g
 use Rattle.fs_machine.specs.Step.{reads, busy, refused_act, after_close, acted, act_done}
 use Rattle.fs_machine.specs.Owed.{PartsIn}
 use Rattle.fs_machine.proofs.Kept.{Stage, Fact, KeptByCalls, DoesJob, raced, KeptByJobs, KeptByCommands, KeptByTouches, KeptByDials}
-use Rattle.fs_machine.proofs.Kept.{apart_by, MayGoOn, goes_on_by, KeptByApi, KeptByMoves}
+use Rattle.fs_machine.proofs.Kept.{apart_by, IsWait, MayGoOn, goes_on_by, KeptByApi, KeptByMoves}
 use Rattle.fs_machine.proofs.Walk.{worked_kept}
 use Rattle.fs_machine.proofs.RestLemmas.{does_same, won_rest}
 use Rattle.fs_machine.proofs.OrderLemmas.{none_refused}
+use Rattle.fs_machine.proofs.LoadLemmas.{load_kept}
 use Rattle.fs_machine.proofs.ActWalk.{job_kept, commanded_kept}
 use Rattle.fs_machine.proofs.OwedBooks.{Books, books_of, Sound, Goes, Few, SlotsAreFew, books_lose}
 use Rattle.fs_machine.proofs.DialedLemmas.{dialed_by}
 use Rattle.fs_machine.proofs.OwedEnds.{goes_ended}
 use Rattle.fs_machine.proofs.OwedLeavings.{goes_left}
-use Rattle.fs_machine.proofs.OwedJobs.{near_self, parts_of, goes_conn, goes_gone, goes_arrived, goes_sleep, goes_originate, goes_woken}
+use Rattle.fs_machine.proofs.OwedJobs.{near_self, parts_of, goes_conn, goes_gone, goes_arrived, goes_wait, goes_originate, goes_woken}
 use Rattle.fs_machine.proofs.OwedJobs.{goes_come, goes_over, goes_drawn, MayBegin, goes_background, goes_out, out_may}
 use Rattle.fs_text.specs.declared.causes.Cause.{Cause}
 use Rattle.fs_chan.specs.declared.chan.Chan.{Chan}
@@ -166,11 +168,11 @@ job_may b number job s h may =
 
 -- where few numbers were drawn
 module _ (b : Books) (by : Giver) (few : Few b) (has : LetsBegin b by) where
-  sleeps_go : (until : ℕ) (s : Switch) → MayGoOn (GoesFrom b) by s → is_full_of_jobs s ≡ false → GoesFrom b None s →
-      Goes b (books_of (after_job_begin by (work.Sleep until) s))
-  sleeps_go until s may room h =
+  waits_go : (what : JobWork) (s : Switch) → IsWait what → MayGoOn (GoesFrom b) by s → is_full_of_jobs s ≡ false → GoesFrom b None s →
+      Goes b (books_of (after_job_begin by what s))
+  waits_go what s wait may room h =
       let seat = a_seat s room in
-      goes_from b few s (after_job_begin by (work.Sleep until) s) h (goes_sleep s by until seat.0 (has s h may) seat.1)
+      goes_from b few s (after_job_begin by what s) h (goes_wait s by what seat.0 wait (has s h may) seat.1)
 
   originates_go : (groups : List (List LegPlan)) (winner : Winner) (caller : Caller) (timeout : Option ℕ) (s : Switch) →
       MayGoOn (GoesFrom b) by s → is_full_of_jobs s ≡ false → GoesFrom b None s →
@@ -184,7 +186,7 @@ module _ (b : Books) (by : Giver) (few : Few b) (has : LetsBegin b by) where
   api_goes = record {
     spent = λ {s = s} h. goes_spent b s h;
     draws = λ {s = s} h. goes_spent b s h;
-    sleeps = λ until {s = s} may room h. sleeps_go until s may room h;
+    waits = λ what {s = s} wait may room h. waits_go what s wait may room h;
     originates = λ groups winner caller timeout {s = s} may are short room h.
         originates_go groups winner caller timeout s may room h;
     leavings = λ {s = s} h. goes_left b s h;
@@ -298,9 +300,9 @@ module _ (before : Switch) (Q : Fact) (kept : KeptByMoves before Q) (owns : (b :
       record {
         spent = λ {s = s} h. (goes_spent b s h.0, runs.spent h.1);
         draws = λ {s = s} h. ((api_goes b by few has).draws {s = s} h.0, runs.draws h.1);
-        sleeps = λ until {s = s} may room h. (
-          sleeps_go b by few has until s (goes_on_by (Beside b Q) (GoesFrom b) by s may (λ t k. k.0)) room h.0,
-          runs.sleeps until (goes_on_by (Beside b Q) Q by s may (λ t k. k.1)) room h.1,
+        waits = λ what {s = s} wait may room h. (
+          waits_go b by few has what s wait (goes_on_by (Beside b Q) (GoesFrom b) by s may (λ t k. k.0)) room h.0,
+          runs.waits what wait (goes_on_by (Beside b Q) Q by s may (λ t k. k.1)) room h.1,
         );
         originates = λ groups winner caller timeout {s = s} may are short room h. (
           originates_go b by few has groups winner caller timeout s (goes_on_by (Beside b Q) (GoesFrom b) by s may (λ t k. k.0)) room h.0,
@@ -314,8 +316,8 @@ module _ (before : Switch) (Q : Fact) (kept : KeptByMoves before Q) (owns : (b :
   jobs_go = record {
     out = λ number job {s = s} does h. (out_goes number job s does h.0, kept.jobs.out number job does h.1);
     runs = both_run;
-    woken = λ number who until answer {s = s} does h.
-        (goes_woken b s number who until answer does h.0, kept.jobs.woken number who until answer does h.1);
+    woken = λ number who what answer {s = s} wait does h.
+        (goes_woken b s number who what answer wait does h.0, kept.jobs.woken number who what answer wait does h.1);
     failed = λ job who winner caller orig cause {s = s} does over h. (
       goes_over b s job who orig winner caller (failed_text cause) (numbers (Some 0) s h.1) does h.0,
       kept.jobs.failed job who winner caller orig cause does over h.1,
@@ -440,6 +442,10 @@ goes_alone (act.Job number) s Q kept owns numbers accepts few h slots q =
     (job_kept s (Beside (books_of s) Q) (both_called s Q kept owns numbers (books_of s) few)
     (dials_go s Q kept owns numbers (books_of s) few) (jobs_go s Q kept owns numbers (books_of s) few) number
     (at_first s h slots, q) (goes_spent (books_of s) s (at_first s h slots), kept.dials.spent q)).0
+goes_alone (act.Loaded number note) s Q kept owns numbers accepts few h slots q =
+    load_kept (λ (t : Switch). Goes (books_of s) (books_of t)) (λ (t : Switch). Goes (books_of s) (books_of t)) (λ config globals t k. k)
+    (λ t k. k) (λ job who answer t does k. goes_woken (books_of s) t job who work.Load answer tt does k) note number s
+    (goes_spent (books_of s) s (at_first s h slots))
 
 -- and with what comes behind it
 pub goes_acted : (what : Act) (s : Switch) (Q : Fact) → KeptByMoves s Q → ((b : Stage) (t : Switch) → Q b t → OwnsAwaited t) →

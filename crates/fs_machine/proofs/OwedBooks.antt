@@ -1,5 +1,5 @@
 -- What is known of connections, of the jobs that owe them replies, and of the originations that these try.
-use Rattle.std.proofs.Common.{◌≡◌, ◌≢◌, ℕ, ◌+◌, ◌*◌, ◌^◌, ◌<◌, ◌≤◌, List, length, Option, None, Some, ap, ◌∙◌}
+use Rattle.std.proofs.Common.{◌≡◌, ◌≢◌, ℕ, ◌+◌, ◌*◌, ◌^◌, ◌<◌, ◌≤◌, List, length, Option, None, Some, refl, ap, ◌∙◌}
 use Rattle.std.specs.List.{sum_by}
 use Rattle.fs_seats.specs.declared.numbered.Numbered.{Numbered}
 use Rattle.fs_seats.specs.Seats.{held_in}
@@ -9,9 +9,10 @@ use Rattle.fs_state.specs.declared.conn.Conn.{Conn}
 use Rattle.fs_state.specs.declared.job.Asker.TheVariants as asker
 use Rattle.fs_state.specs.declared.job.Job.{Job}
 use Rattle.fs_state.specs.declared.job.JobWork.{JobWork}
-use Rattle.fs_state.specs.declared.job.JobWork.TheVariants.{Run, Sleep, Originate}
+use Rattle.fs_state.specs.declared.job.JobWork.TheVariants.{Run, Sleep, Originate, Load}
 use Rattle.fs_state.specs.Switch.{Switch}
 use Rattle.fs_machine.specs.Owed.{Parts}
+use Rattle.fs_machine.proofs.Kept.{IsWait}
 use Rattle.fs_machine.proofs.RestLemmas.{Rest, rest_of}
 use Rattle.fs_machine.proofs.OwedTables.{by_job, by_slot, owned_in}
 use Rattle.fs_machine.proofs.OwedLosses.{Loses}
@@ -97,6 +98,14 @@ abbrev pub tried_by : JobWork → Option ℕ
 tried_by Run = None
 tried_by (Sleep until) = None
 tried_by (Originate orig winner caller) = Some orig
+tried_by Load = None
+
+-- work that only waits tries none
+pub wait_tries : (what : JobWork) → IsWait what → tried_by what ≡ None
+wait_tries Run wait = refl
+wait_tries (Sleep until) wait = refl
+wait_tries (Originate orig winner caller) wait = absurd wait
+wait_tries Load wait = refl
 
 abbrev pub tried_in : Option (Numbered Job) → Option ℕ
 tried_in None = None

@@ -22,7 +22,7 @@ use Rattle.fs_state.specs.declared.job.Asker.TheVariants as asker
 use Rattle.fs_state.specs.declared.job.Background.{Background}
 use Rattle.fs_state.specs.declared.job.Job.{Job}
 use Rattle.fs_state.specs.declared.job.JobWork.{JobWork}
-use Rattle.fs_state.specs.declared.job.JobWork.TheVariants.{Run, Sleep, Originate}
+use Rattle.fs_state.specs.declared.job.JobWork.TheVariants.{Run, Originate}
 use Rattle.fs_state.specs.Switch.{Switch, next_orig_number, next_job_number, conn_of, with_conn, with_new_job, with_new_orig, without_job}
 use Rattle.fs_state.specs.Switch.{with_new_conn, without_conn, without_orig}
 use Rattle.fs_machine.specs.Connections.{conn_changed_from, conn_changed, owed_since, not_owed}
@@ -34,8 +34,8 @@ use Rattle.fs_machine.specs.Owing.{job_number, after_owing, after_job_begin, job
 use Rattle.fs_machine.specs.Step.{new_conn, arrived}
 use Rattle.fs_machine.specs.Owed.{Parts}
 use Rattle.fs_machine.proofs.OwedBooks.{Conns, Jobs, Books, books_of, books_same, PartEach, Linked, HasNumber, tried_by, trying_in, Tries}
-use Rattle.fs_machine.proofs.OwedBooks.{Sound, Near, Goes, Few, tries, books_with, books_lose, SlotsAreFew}
-use Rattle.fs_machine.proofs.Kept.{DoesJob}
+use Rattle.fs_machine.proofs.OwedBooks.{wait_tries, Sound, Near, Goes, Few, tries, books_with, books_lose, SlotsAreFew}
+use Rattle.fs_machine.proofs.Kept.{IsWait, DoesJob}
 use Rattle.fs_machine.proofs.RestLemmas.{rest_of}
 use Rattle.fs_machine.proofs.OwedLemmas.{linked_changed, linked_gone, linked_come, linked_more, linked_begun, linked_apart, linked_ended}
 use Rattle.fs_machine.proofs.OwedLemmas.{linked_dropped, same_conn, no_conn, numbers_back, number_left}
@@ -238,13 +238,13 @@ goes_begun b u (giver.Job number job) work q may is_free few same linked tries n
     (numbers_back u.jobs u.drawn.jobs q (job_for number (asker.Background job) work) may.0 may.1 linked.job_numbers)
     (omega (arith, same)) linked tries near
 
--- msleep
-pub goes_sleep : (s : Switch) (by : Giver) (until q : ℕ) → MayBegin (books_of s) by → least_free s.jobs 0 ≡ Some q → Few (books_of s) →
-    Sound (books_of s) → Goes (books_of s) (books_of (after_job_begin by (Sleep until) s))
-goes_sleep s by until q may is_free few h =
+-- msleep, and a load that is waited for
+pub goes_wait : (s : Switch) (by : Giver) (what : JobWork) (q : ℕ) → IsWait what → MayBegin (books_of s) by →
+    least_free s.jobs 0 ≡ Some q → Few (books_of s) → Sound (books_of s) → Goes (books_of s) (books_of (after_job_begin by what s))
+goes_wait s by what q wait may is_free few h =
     let free = free_least s.jobs q is_free in
-    goes_begun (books_of s) s by (Sleep until) q may is_free few.jobs refl h.linked
-    (tries_slept s.jobs (owned_in by_job s.origs) s.drawn.origs q (job_by by (Sleep until) s) free.1 free.0 refl h.tries)
+    goes_begun (books_of s) s by what q may is_free few.jobs refl h.linked
+    (tries_slept s.jobs (owned_in by_job s.origs) s.drawn.origs q (job_by by what s) free.1 free.0 (wait_tries what wait) h.tries)
     (near_self (books_of s))
 
 -- a job in the background begins, whose identifier was drawn or given
@@ -472,13 +472,13 @@ tries_left : (s : Switch) (number q : ℕ) (row : Numbered Job) (what : JobWork)
 tries_left s number q row what stands same none h =
     tries_woken s.jobs (owned_in by_job s.origs) s.drawn.origs q row stands.there (ap tried_by same ∙ none) h.tries
 
--- a job that slept ends
-pub goes_woken : (b : Books) (s : Switch) (number : ℕ) (who : Asker) (until : ℕ) (answer : Text) → DoesJob s number who (Sleep until) →
-    Goes b (books_of s) → Goes b (books_of (after_job_end number who answer s))
-goes_woken b s number who until answer does h =
-    let found = row_found s.jobs number (record { asker = who; work = Sleep until }) does.there in
+-- a job that waited ends
+pub goes_woken : (b : Books) (s : Switch) (number : ℕ) (who : Asker) (what : JobWork) (answer : Text) → IsWait what →
+    DoesJob s number who what → Goes b (books_of s) → Goes b (books_of (after_job_end number who answer s))
+goes_woken b s number who what answer wait does h =
+    let found = row_found s.jobs number (record { asker = who; work = what }) does.there in
     goes_ended b s number who answer found.0 found.1 found.2 (ap (λ (y : Job). y.asker) found.3) h.sound.linked
-    (tries_left s number found.0 found.1 (Sleep until) found.2 (ap (λ (y : Job). y.work) found.3) refl h.sound) h.near
+    (tries_left s number found.0 found.1 what found.2 (ap (λ (y : Job). y.work) found.3) (wait_tries what wait) h.sound) h.near
 
 -- a job that is to run a command is taken out
 pub goes_out : (s : Switch) (number : ℕ) (job : Background) → DoesJob s number (asker.Background job) Run → Sound (books_of s) →

@@ -15,13 +15,14 @@ use Rattle.fs_state.specs.declared.conn.Conn.{Conn}
 use Rattle.fs_state.specs.declared.job.Asker.TheVariants as asker
 use Rattle.fs_state.specs.declared.job.Job.{Job}
 use Rattle.fs_state.specs.declared.job.JobWork.{JobWork}
-use Rattle.fs_state.specs.declared.job.JobWork.TheVariants.{Run, Sleep, Originate}
+use Rattle.fs_state.specs.declared.job.JobWork.TheVariants.{Run, Sleep, Originate, Load}
 use Rattle.fs_state.specs.Switch.{Switch, empty, chan_at, orig_of, job_of, conn_of, at_moment}
 use Rattle.fs_machine.specs.declared.due.DueActor.TheVariants as actor
 use Rattle.fs_machine.specs.declared.entry.Entry.{Entry}
+use Rattle.fs_machine.specs.Loading.{waits_for_load}
 use Rattle.fs_machine.specs.Questions.{owed_of, owed_to, owes}
 use Rattle.fs_machine.specs.Due.{orig_due, work_due, job_due, is_now, later_of, row_moment, due_number, due_slot, due_job}
-use Rattle.fs_machine.specs.Due.{dials, turn_of, first_chan_moment, first_job_moment, actor_or, later_or_never, due_among_all, next_due}
+use Rattle.fs_machine.specs.Due.{dials, turn_of, turn_of_job, first_chan_moment, first_job_moment, actor_or, later_or_never, due_among_all, next_due}
 use Rattle.fs_machine.specs.Owed.{HasOneJob, AreOwed}
 use Rattle.fs_machine.proofs.OwedBooks.{books_of, tried_by, HasJob, HasNumber, Sound}
 use Rattle.fs_machine.proofs.OwedJobs.{parts_of}
@@ -45,6 +46,7 @@ work_is_due s (Originate orig winner caller) there none =
     let had = there orig refl in
     let row : HasRow s.origs orig = job_has_row s.origs had.0 orig had.1 in
     orig_is_due s.moment row.1.held (orig_of s orig) (row_is s.origs orig row.0 row.1 row.2) none
+work_is_due s Load there none = cc none
 
 -- each job is the one of its number
 pub job_is_known : (s : Switch) (q : ℕ) (job : Numbered Job) → Sound (books_of s) → held_in s.jobs q ≡ Some job →
@@ -107,12 +109,17 @@ turn_is_some : (waits : Bool) (slot : ℕ) → (if waits then actor.Dial slot el
 turn_is_some true slot is = absurd (cc is)
 turn_is_some false slot is = absurd (cc is)
 
+-- and that of a job
+job_turn_is_some : (loads : Bool) (number : ℕ) → (if loads then actor.Load number else actor.Job number) ≡ actor.Never → ⊥
+job_turn_is_some true number is = absurd (cc is)
+job_turn_is_some false number is = absurd (cc is)
+
 -- nobody has something to do only where no job has
 never_among : (s : Switch) (slot job moment : Option ℕ) →
-    actor_or (turn_of s) slot (actor_or actor.Job job (later_or_never moment)) ≡ actor.Never → (job ≡ None) × (moment ≡ None)
+    actor_or (turn_of s) slot (actor_or (turn_of_job s) job (later_or_never moment)) ≡ actor.Never → (job ≡ None) × (moment ≡ None)
 never_among s None None None is = (refl, refl)
 never_among s None None (Some moment) is = absurd (cc is)
-never_among s None (Some job) moment is = absurd (cc is)
+never_among s None (Some job) moment is = absurd (job_turn_is_some (waits_for_load job s) job is)
 never_among s (Some slot) job moment is = absurd (turn_is_some (dials (chan_at s slot)) slot is)
 
 never_due : (s : Switch) (q : ℕ) (row : Numbered Job) → held_in s.jobs q ≡ Some row → due_among_all s ≡ actor.Never →
@@ -133,6 +140,7 @@ due_at_moment s now (Originate orig winner caller) is = by (orig_of s orig) is
     by : (o : Option Orig) → orig_due (at_moment now s).moment o ≡ None → orig_due s.moment o ≡ None
     by None e = refl
     by (Some o) e = absurd (cc e)
+due_at_moment s now Load is = absurd (cc is)
 
 -- a job that has a next moment is work that is due
 job_at_work : (s : Switch) (number : ℕ) → job_due number s ≢ None →

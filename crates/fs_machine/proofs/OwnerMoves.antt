@@ -37,7 +37,7 @@ use Rattle.fs_state.specs.declared.conn.Conn.{Conn}
 use Rattle.fs_state.specs.declared.conn.Parting.TheVariants as parting
 use Rattle.fs_state.specs.declared.job.Asker.{Asker}
 use Rattle.fs_state.specs.declared.job.JobWork.{JobWork}
-use Rattle.fs_state.specs.declared.job.JobWork.TheVariants.{Sleep, Originate}
+use Rattle.fs_state.specs.declared.job.JobWork.TheVariants.{Originate}
 use Rattle.fs_state.specs.Switch.{Switch, chan_at, with_chan, with_new_conn, next_orig_number, orig_of, without_orig, with_bridge}
 use Rattle.fs_state.specs.Moves.{after_move_from, orig_changed, leg_changed, after_move, orig_given_up}
 use Rattle.fs_state.specs.Hangups.{legs_at, after_hangups}
@@ -571,9 +571,9 @@ module _ (before : Switch) (stand : LegsStand (roles_of before)) (bonding : Kept
   owning_api by bonds = record {
     spent = λ {s = s} h. record { bonds = bonds.spent {s = s} h.bonds; owned = h.owned; room = tt };
     draws = λ {s = s} h. record { bonds = bonds.draws {s = s} h.bonds; owned = h.owned; room = tt };
-    sleeps = λ until {s = s} may room h. record {
-      bonds = bonds.sleeps until {s = s} (goes_on_by Owning Bonding by s may (λ t k. k.bonds)) room h.bonds;
-      owned = subst Owned (sym (begun_roles by (Sleep until) s)) h.owned;
+    waits = λ what {s = s} wait may room h. record {
+      bonds = bonds.waits what {s = s} wait (goes_on_by Owning Bonding by s may (λ t k. k.bonds)) room h.bonds;
+      owned = subst Owned (sym (begun_roles by what s)) h.owned;
       room = tt;
     };
     originates = λ groups winner caller timeout {s = s} may are short room h. record {
@@ -596,8 +596,8 @@ module _ (before : Switch) (stand : LegsStand (roles_of before)) (bonding : Kept
       out = λ number job {s = s} does h.
           record { bonds = bonding.jobs.out number job {s = s} does h.bonds; owned = h.owned; room = h.room };
       runs = λ number job. owning_api (giver.Job number job) (bonding.jobs.runs number job);
-      woken = λ number who until answer {s = s} does h. record {
-        bonds = bonding.jobs.woken number who until answer {s = s} does h.bonds;
+      woken = λ number who what answer {s = s} wait does h. record {
+        bonds = bonding.jobs.woken number who what answer {s = s} wait does h.bonds;
         owned = ended_owned number who answer s h.owned;
         room = tt;
       };

@@ -34,7 +34,7 @@ use Rattle.fs_state.specs.declared.conn.Parting.{Parting}
 use Rattle.fs_state.specs.declared.conn.Parting.TheVariants as parting
 use Rattle.fs_state.specs.declared.job.Asker.TheVariants as asker
 use Rattle.fs_state.specs.declared.job.JobWork.{JobWork}
-use Rattle.fs_state.specs.declared.job.JobWork.TheVariants.{Sleep, Originate}
+use Rattle.fs_state.specs.declared.job.JobWork.TheVariants.{Originate}
 use Rattle.fs_state.specs.Switch.{Switch, empty, conn_of, next_orig_number, next_job_number, is_full_of_jobs, with_new_job, at_moment}
 use Rattle.fs_state.specs.Switch.{with_next_identifier, chan_at, with_chan, slot_named}
 use Rattle.fs_state.specs.Ending.{ended}
@@ -125,6 +125,7 @@ abbrev pub IsOfNobody : Act → Type 0
 IsOfNobody (act.Dialed slot linked) = linked ≡ false
 IsOfNobody (act.Work slot) = Unit {0}
 IsOfNobody (act.Job number) = Unit {0}
+IsOfNobody (act.Loaded number note) = Unit {0}
 IsOfNobody act.Halt = Unit {0}
 IsOfNobody _ = ⊥
 
@@ -150,6 +151,9 @@ others_part conn moment (act.Work slot) s such =
 others_part conn moment (act.Job number) s such =
     settled_parts conn s (step s (record { moment = moment; act = act.Job number })).state
     ((act_keeps (act.Job number) (at_moment moment s)).others conn (none-some conn))
+others_part conn moment (act.Loaded number note) s such =
+    settled_parts conn s (step s (record { moment = moment; act = act.Loaded number note })).state
+    ((act_keeps (act.Loaded number note) (at_moment moment s)).others conn (none-some conn))
 others_part conn moment act.Halt s such =
     settled_parts conn s (step s (record { moment = moment; act = act.Halt })).state
     ((act_keeps act.Halt (at_moment moment s)).others conn (none-some conn))
@@ -199,7 +203,7 @@ module _ (conn : ℕ) (s : Switch) where
   api_keeps = record {
     spent = λ h. h;
     draws = λ {s = t} h. parts_trans conn s t (with_next_identifier t) h (inl (keeps_same conn t (with_next_identifier t) refl));
-    sleeps = λ until {s = t} may room h. owing_keeps (Sleep until) t h;
+    waits = λ what {s = t} wait may room h. owing_keeps what t h;
     originates = λ groups winner caller timeout {s = t} may are short room h. originates_keeps groups winner caller timeout t h;
     leavings = λ {s = t} h. parts_trans conn s t (after_leavings t) h (settled_parts conn t (after_leavings t) (left_settles t conn));
     ends = λ reply notice {s = t} dead h. parts_trans conn s t (ended reply notice t) h

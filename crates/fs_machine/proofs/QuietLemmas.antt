@@ -13,7 +13,7 @@ use Rattle.fs_book.specs.Opened.{OpensAt, OwnsNumber, NoneNames, Quiet}
 use Rattle.fs_book.specs.Numbered.{counted_where, count_behind}
 use Rattle.fs_machine.specs.declared.entry.Entry.{Entry}
 use Rattle.fs_machine.specs.declared.entry.Act.{Act}
-use Rattle.fs_machine.specs.declared.entry.Act.TheVariants.{Arrive, Command, Take, Close, Dialed, Work, Job, Halt}
+use Rattle.fs_machine.specs.declared.entry.Act.TheVariants.{Arrive, Command, Take, Close, Dialed, Work, Job, Loaded, Halt}
 use Rattle.fs_machine.specs.declared.entry.Closing.TheVariants.{EndOfInput, Sent, Failed}
 use Rattle.fs_machine.specs.declared.refusal.Refusal.TheVariants as refusal
 use Rattle.fs_machine.specs.declared.reply.Reply.{Reply}
@@ -230,6 +230,7 @@ own_shut conn moment (Close closer Failed) s orderly none actor is_open =
 own_shut conn moment (Dialed slot linked) s orderly none actor is_open = absurd (none-some conn actor)
 own_shut conn moment (Work slot) s orderly none actor is_open = absurd (none-some conn actor)
 own_shut conn moment (Job number) s orderly none actor is_open = absurd (none-some conn actor)
+own_shut conn moment (Loaded number note) s orderly none actor is_open = absurd (none-some conn actor)
 own_shut conn moment Halt s orderly none actor is_open = absurd (none-some conn actor)
 
 pub does : (conn : ℕ) (config : Configuration) (before : List Entry) (entry : Entry) (reply : Reply) → Answers config before entry reply →

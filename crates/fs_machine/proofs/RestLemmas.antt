@@ -55,6 +55,7 @@ use Rattle.fs_machine.proofs.Walk.{answered_kept, disposed_kept, worked_kept, gr
 pub record Rest : Type 0 where
   pub settings : Settings
   pub contexts : List Context
+  pub reloads : ℕ
   pub jobs : List (Option (Numbered Job))
   pub conns : List (Option (Numbered Conn))
   pub outboxes : List Frames
@@ -73,6 +74,7 @@ abbrev pub rest_of : Switch → Rest
 rest_of s = record {
   settings = s.settings;
   contexts = s.contexts;
+  reloads = s.reloads;
   jobs = s.jobs;
   conns = s.conns;
   outboxes = s.outboxes;

@@ -1,6 +1,6 @@
 -- What is seen for a route, and whether it is still what stands there.
 use Rattle.std.proofs.Common.{◌≡◌, ℕ, Bool, true, false, List, Option, None, Some, refl, sym, ap, subst, ◌∙◌}
-use Rattle.std.specs.Prelude.{if◌then◌else◌, slice_index, ◌&&◌, ◌↔◌, IsTrue}
+use Rattle.std.specs.Prelude.{ℤ, if◌then◌else◌, slice_index, ◌&&◌, ◌↔◌, IsTrue}
 use Rattle.std.specs.Arc.{arc_value}
 use Rattle.std.specs.Option.{option_map}
 use Rattle.fs_text.specs.Texts.{Text}
@@ -13,19 +13,16 @@ use Rattle.fs_chan.specs.declared.chan.Chan.{Chan}
 use Rattle.fs_chan.specs.Changes.{may_route}
 use Rattle.fs_plan.specs.Outcomes.{Outcome}
 use Rattle.fs_plan.specs.declared.hunt.Hunt.{Hunt}
-use Rattle.fs_state.specs.declared.delta.Delta.{Delta}
-use Rattle.fs_state.specs.Drafts.{after}
-use Rattle.fs_state.specs.Posting.{with_posts}
-use Rattle.fs_state.specs.Switch.{Switch, empty, chan_at, at_moment, after_entry}
+use Rattle.fs_state.specs.Switch.{Switch, chan_at, at_moment}
 use Rattle.fs_machine.specs.declared.entry.Entry.{Entry}
 use Rattle.fs_machine.specs.declared.routes.Plan.{Plan}
 use Rattle.fs_machine.specs.declared.routes.Snapshot.{Snapshot}
-use Rattle.fs_machine.specs.Routes.{Basis, basis_at, basis_of, routing_in, is_routing, is_routable, is_routable_in, shown, Shows, IsOf, AreKept, IsHunted, hunt_in, Suits, IsCurrent, work_at}
-use Rattle.fs_machine.specs.Runs.{run_from, StandsFor}
-use Rattle.fs_machine.specs.declared.reply.Reply.TheVariants as reply
-use Rattle.fs_machine.specs.Controlling.{after_leavings}
-use Rattle.fs_machine.specs.Step.{step}
+use Rattle.fs_machine.specs.Routes.{Basis, basis_at, basis_of, routing_in, is_routing, is_routable, is_routable_in, shown, Shows, IsOf, AreKept, IsHunted, hunt_in, Suits, IsCurrent}
+use Rattle.fs_machine.specs.Routes.{wall_at, IsInForceAfter, IsPlan}
+use Rattle.fs_machine.specs.Laws.{state_after}
+use Rattle.fs_machine.specs.Runs.{View, StandsFor}
 use Rattle.fs_machine.specs.Work.{found_in, after_work, after_work_from, after_routing}
+use Rattle.fs_machine.proofs.InForceLemmas.{in_force_now, in_force_once}
 
 -- a channel that is to be routed stands there, and is in the state for it
 pub routing_is : (found : Option Chan) (c : Chan) → routing_in found ≡ Some c → (found ≡ Some c) × (is_routing c.state ≡ true)
@@ -43,19 +40,22 @@ routable_is found c is may =
     ap is_routable_in has.0 ∙ (ap (λ (b : Bool). b && may_route c) has.1 ∙ may)
 
 -- what is copied of a channel that is to be routed shows it
-pub shows : (config : Configuration) (kept : Switch) (journal : List Entry) (counts : List ℕ) (spare : ℕ) (ring : Events Text) (slot : ℕ)
-    (c : Chan) (seen : Snapshot) → StandsFor config kept journal → kept.contexts ≡ config.contexts → AreKept config journal counts →
+pub shows : (config : Configuration) (kept : Switch) (journal : List Entry) (counts : List ℕ) (spare : ℕ) (ring : Events Text)
+    (moment slot : ℕ) (c : Chan) (seen : Snapshot) → StandsFor config kept journal → AreKept config journal counts →
     routing_in (chan_at kept slot) ≡ Some c → may_route c ≡ true → IsOf seen c → kept.globals ≡ seen.globals →
-    seen.touched ≡ slice_index counts slot → arc_value seen.dialplan ≡ kept.contexts →
-    Shows (record { config = config; journal = journal; spare = spare; ring = ring }) slot seen
-shows config kept journal counts spare ring slot c seen stands contexts known here may own globals touched dialplan =
-    let s = run_from (empty config) journal in record {
+    seen.touched ≡ slice_index counts slot → seen.reloads ≡ kept.reloads → seen.wall ≡ wall_at moment kept →
+    arc_value seen.dialplan ≡ kept.contexts →
+    Shows (record { config = config; journal = journal; spare = spare; ring = ring }) moment slot seen
+shows config kept journal counts spare ring moment slot c seen stands known here may own globals touched reloads wall dialplan =
+    record {
       routable = subst (λ (k : Switch). is_routable slot k ≡ true) stands.state (routable_is (chan_at kept slot) c here may);
       basis =
           subst (λ (k : Switch). basis_at slot k ≡ Some (shown seen)) stands.state
           (ap (λ (found : Option Chan). option_map (basis_of kept.globals) found) here ∙ ap (λ (b : Basis). Some b) (basis_shown kept c seen globals own));
       touched = rw touched (known.each slot);
-      dialplan = dialplan ∙ contexts;
+      reloads = reloads ∙ ap (λ (k : Switch). k.reloads) stands.state;
+      wall = wall ∙ ap (wall_at moment) stands.state;
+      dialplan = dialplan ∙ ap (λ (k : Switch). k.contexts) stands.state;
     }
   where
     basis_shown : (kept : Switch) (c : Chan) (seen : Snapshot) → kept.globals ≡ seen.globals → IsOf seen c → basis_of kept.globals c ≡ shown seen
@@ -115,29 +115,49 @@ other_current s slot c seen here own = (
       }),
 )
 
--- a plan that is current was hunted for the channel that stands there
-pub plan_hunted : (s : Switch) (config : Configuration) (slot : ℕ) (plan : Plan) → s.contexts ≡ config.contexts → Suits config plan →
-    IsCurrent slot plan s → IsHunted slot plan.hunt s
-plan_hunted s config slot plan contexts suits current = by (routing_in (chan_at s slot)) refl
+-- the dialplan that a snapshot shows is in force after as many loads as it shows
+pub shown_in_force : (m : View) (moment slot : ℕ) (seen : Snapshot) → Shows m moment slot seen →
+    IsInForceAfter m.config m.journal seen.reloads (arc_value seen.dialplan)
+shown_in_force m moment slot seen h =
+    in_force_now m.config m.journal seen.reloads (arc_value seen.dialplan) (sym h.reloads) (sym h.dialplan)
+
+-- so a plan of it suits
+pub plan_suits : (m : View) (moment slot : ℕ) (seen : Snapshot) (plan : Plan) → Shows m moment slot seen → plan.seen ≡ seen →
+    IsPlan plan → Suits m.config m.journal plan
+plan_suits m moment slot seen plan h same right =
+    record { in_force = shown_in_force m moment slot plan.seen (subst (λ (x : Snapshot). Shows m moment slot x) (sym same) h); plan_is = right }
+
+-- a plan that is current was hunted for the channel that stands there, through what is in force, at the minute that it is
+pub plan_hunted : (config : Configuration) (journal : List Entry) (s : Switch) (moment slot : ℕ) (plan : Plan) →
+    s ≡ state_after config journal → Suits config journal plan → IsCurrent moment slot plan s →
+    IsHunted slot plan.hunt (at_moment moment s)
+plan_hunted config journal s moment slot plan stands suits current = by (routing_in (chan_at s slot)) refl
   where
+    in_force : s.contexts ≡ arc_value plan.seen.dialplan
+    in_force =
+        ap (λ (t : Switch). t.contexts) stands
+        ∙ in_force_once config journal plan.seen.reloads (arc_value plan.seen.dialplan) suits.in_force
+        (sym (current.reloads ∙ ap (λ (t : Switch). t.reloads) stands))
+
     state_is : (state : State) → is_routing state ≡ true → state ≡ CsRouting
     state_is CsRouting is = refl
     state_is _ is = absurd (cc is)
 
-    by : (found : Option Chan) → routing_in (chan_at s slot) ≡ found → IsHunted slot plan.hunt s
-    by None none = absurd (not_current s slot plan.seen none current)
+    by : (found : Option Chan) → routing_in (chan_at s slot) ≡ found → IsHunted slot plan.hunt (at_moment moment s)
+    by None none = absurd (not_current s slot plan.seen none current.basis)
     by (Some c) is =
         let has = routing_is (chan_at s slot) c is in
         let e = same_basis (basis_of s.globals c) (shown plan.seen)
-        (sym (ap (λ (found : Option Chan). option_map (basis_of s.globals) found) is) ∙ current) in
+        (sym (ap (λ (found : Option Chan). option_map (basis_of s.globals) found) is) ∙ current.basis) in
         record {
           chan = c;
           at = has.0;
           routing = state_is c.state has.1;
           found =
-              ap (λ (b : Basis). found_in (hunt_in s.contexts b)) e
-              ∙ (ap (λ (contexts : List Context). found_in (hunt_in contexts (shown plan.seen))) (contexts ∙ sym suits.0)
-              ∙ ap (λ (outcome : Outcome Hunt). found_in outcome) suits.1);
+              ap (λ (b : Basis). found_in (hunt_in s.contexts b (wall_at moment s))) e
+              ∙ (ap (λ (contexts : List Context). found_in (hunt_in contexts (shown plan.seen) (wall_at moment s))) in_force
+              ∙ (ap (λ (wall : ℤ). found_in (hunt_in (arc_value plan.seen.dialplan) (shown plan.seen) wall)) (sym current.wall)
+              ∙ ap (λ (outcome : Outcome Hunt). found_in outcome) suits.plan_is));
         }
 
 -- the work of a channel that is to be routed is its route
@@ -149,18 +169,3 @@ routing_works s slot hunt hunted =
   where
     works : (c : Chan) → c.state ≡ CsRouting → after_work_from slot (Some c) s ≡ after_routing slot s
     works c routing = rw routing
-
--- ---- what an entry comes to whose draft was brought so far step by step
-
-pub routed_steps : (s base began worked left posted : Switch) (now slot : ℕ) (delta : Delta) → base ≡ s → began ≡ at_moment now s →
-    worked ≡ after_work slot began → left ≡ after_leavings worked → posted ≡ with_posts base left → after base delta ≡ posted →
-    step s (work_at now slot) ≡ record { state = after_entry 64 (after s delta); reply = reply.Worked }
-unfolding step
-routed_steps s base began worked left posted now slot delta based begins works leaves posts made =
-    let e : after s delta ≡ with_posts s (after_leavings (after_work slot (at_moment now s))) =
-    ap (λ (b : Switch). after b delta) (sym based)
-    ∙ (made
-    ∙ (posts
-    ∙ (ap (λ (b : Switch). with_posts b left) based
-    ∙ ap (λ (t : Switch). with_posts s t) (leaves ∙ ap after_leavings (works ∙ ap (after_work slot) begins))))) in
-    ap (λ (t : Switch). record { state = after_entry 64 t; reply = reply.Worked }) (sym e)

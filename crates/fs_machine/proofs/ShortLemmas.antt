@@ -240,7 +240,7 @@ controlling_short arguments = by (bytes_eq (word_of arguments) (codes "shutdown"
     by false = tt
 
 -- whichever name it has
-command_short : (echoes expands creates controls gets sets hangs sleeps tries bridges dumps exists reads kills parks changes sends : Bool)
+command_short : (echoes expands creates controls gets sets hangs sleeps tries reloads bridges dumps exists reads kills parks changes sends : Bool)
     (name arguments : Text) →
     NamesShort
     (if echoes then api.Echo arguments
@@ -252,6 +252,7 @@ command_short : (echoes expands creates controls gets sets hangs sleeps tries br
     else (if hangs then readings.hupall_of arguments
     else (if sleeps then readings.msleep_of arguments
     else (if tries then originates.originate_of arguments
+    else (if reloads then api.Reloadxml
     else (if bridges then readings.needs which.UuidBridge readings.uuid_bridge_of arguments
     else (if dumps then readings.needs which.UuidDump readings.uuid_dump_of arguments
     else (if exists then readings.needs which.UuidExists readings.uuid_exists_of arguments
@@ -260,46 +261,55 @@ command_short : (echoes expands creates controls gets sets hangs sleeps tries br
     else (if parks then readings.needs which.UuidPark readings.uuid_park_of arguments
     else (if changes then readings.needs which.UuidSetvar readings.uuid_setvar_of arguments
     else (if sends then transfers.uuid_transfer_of arguments
-    else api.Unknown name)))))))))))))))))
-command_short true expands creates controls gets sets hangs sleeps tries bridges dumps exists reads kills parks changes sends name arguments =
+    else api.Unknown name))))))))))))))))))
+command_short true expands creates controls gets sets hangs sleeps tries reloads bridges dumps exists reads kills parks changes sends name arguments =
     tt
-command_short false true creates controls gets sets hangs sleeps tries bridges dumps exists reads kills parks changes sends name arguments =
+command_short false true creates controls gets sets hangs sleeps tries reloads bridges dumps exists reads kills parks changes sends name arguments =
     needs_short which.Expand readings.expand_of arguments expanding_short
-command_short false false true controls gets sets hangs sleeps tries bridges dumps exists reads kills parks changes sends name arguments =
+command_short false false true controls gets sets hangs sleeps tries reloads bridges dumps exists reads kills parks changes sends name arguments =
     tt
-command_short false false false true gets sets hangs sleeps tries bridges dumps exists reads kills parks changes sends name arguments =
+command_short false false false true gets sets hangs sleeps tries reloads bridges dumps exists reads kills parks changes sends name arguments =
     controlling_short arguments
-command_short false false false false true sets hangs sleeps tries bridges dumps exists reads kills parks changes sends name arguments =
+command_short false false false false true sets hangs sleeps tries reloads bridges dumps exists reads kills parks changes sends name arguments =
     getting_short arguments
-command_short false false false false false true hangs sleeps tries bridges dumps exists reads kills parks changes sends name arguments =
+command_short false false false false false true hangs sleeps tries reloads bridges dumps exists reads kills parks changes sends name arguments =
     needs_short which.GlobalSetvar readings.global_setvar_of arguments (λ text. tt)
-command_short false false false false false false true sleeps tries bridges dumps exists reads kills parks changes sends name arguments =
+command_short false false false false false false true sleeps tries reloads bridges dumps exists reads kills parks changes sends name arguments =
     hanging_short arguments
-command_short false false false false false false false true tries bridges dumps exists reads kills parks changes sends name arguments =
+command_short false false false false false false false true tries reloads bridges dumps exists reads kills parks changes sends name arguments =
     sleeping_short (read_u64 (word_of arguments))
-command_short false false false false false false false false true bridges dumps exists reads kills parks changes sends name arguments =
+command_short false false false false false false false false true reloads bridges dumps exists reads kills parks changes sends name arguments =
     originate_short arguments
-command_short false false false false false false false false false true dumps exists reads kills parks changes sends name arguments =
+command_short false false false false false false false false false true bridges dumps exists reads kills parks changes sends name arguments =
+    tt
+command_short false false false false false false false false false false true dumps exists reads kills parks changes sends name arguments =
     needs_short which.UuidBridge readings.uuid_bridge_of arguments joining_short
-command_short false false false false false false false false false false true exists reads kills parks changes sends name arguments =
+command_short false false false false false false false false false false false true exists reads kills parks changes sends name arguments =
     needs_short which.UuidDump readings.uuid_dump_of arguments (λ text. tt)
-command_short false false false false false false false false false false false true reads kills parks changes sends name arguments =
+command_short false false false false false false false false false false false false true reads kills parks changes sends name arguments =
     needs_short which.UuidExists readings.uuid_exists_of arguments (λ text. tt)
-command_short false false false false false false false false false false false false true kills parks changes sends name arguments =
+command_short false false false false false false false false false false false false false true kills parks changes sends name arguments =
     needs_short which.UuidGetvar readings.uuid_getvar_of arguments reading_short
-command_short false false false false false false false false false false false false false true parks changes sends name arguments =
+command_short false false false false false false false false false false false false false false true parks changes sends name arguments =
     needs_short which.UuidKill readings.uuid_kill_of arguments (λ text. tt)
-command_short false false false false false false false false false false false false false false true changes sends name arguments =
+command_short false false false false false false false false false false false false false false false true changes sends name arguments =
     needs_short which.UuidPark readings.uuid_park_of arguments (λ text. tt)
-command_short false false false false false false false false false false false false false false false true sends name arguments =
+command_short false false false false false false false false false false false false false false false false true sends name arguments =
     needs_short which.UuidSetvar readings.uuid_setvar_of arguments setting_short
-command_short false false false false false false false false false false false false false false false false true name arguments =
+command_short false false false false false false false false false false false false false false false false false true name arguments =
     transferring_short arguments
-command_short false false false false false false false false false false false false false false false false false name arguments = tt
+command_short false false false false false false false false false false false false false false false false false false name arguments =
+    tt
 
 named_short : (name arguments : Text) → NamesShort (api_named name arguments)
 unfolding api_named
-named_short name arguments = command_short _ _ _ _ _ _ _ _ _ _ _ _ _ _ _ _ _ name arguments
+named_short name arguments =
+    command_short (bytes_eq name (codes "echo")) (bytes_eq name (codes "expand")) (bytes_eq name (codes "create_uuid"))
+    (bytes_eq name (codes "fsctl")) (bytes_eq name (codes "global_getvar")) (bytes_eq name (codes "global_setvar"))
+    (bytes_eq name (codes "hupall")) (bytes_eq name (codes "msleep")) (bytes_eq name (codes "originate"))
+    (bytes_eq name (codes "reloadxml")) (bytes_eq name (codes "uuid_bridge")) (bytes_eq name (codes "uuid_dump"))
+    (bytes_eq name (codes "uuid_exists")) (bytes_eq name (codes "uuid_getvar")) (bytes_eq name (codes "uuid_kill"))
+    (bytes_eq name (codes "uuid_park")) (bytes_eq name (codes "uuid_setvar")) (bytes_eq name (codes "uuid_transfer")) name arguments
 
 pub api_short : (text : Text) → NamesShort (api_of text)
 api_short text = named_short (word_of (without_spaces text)) (behind_word (without_spaces text))

@@ -100,9 +100,9 @@ unfolding step
 step_stands s entry legs h =
     let now : Switch = at_moment entry.moment s in
     record {
-      told = acted_kept now Told (told_moves now) entry.act h.told;
-      winners = acted_kept now Winners (winners_moves now) entry.act h.winners;
-      fit = acted_kept now Fit (fit_moves now legs h.winners) entry.act h.fit;
+      told = acted_kept now Told (told_moves now) entry.act (λ loads config t k. k) h.told;
+      winners = acted_kept now Winners (winners_moves now) entry.act (λ loads config t k. k) h.winners;
+      fit = acted_kept now Fit (fit_moves now legs h.winners) entry.act (λ loads config t k. k) h.fit;
     }
 
 run_stands : (s : Switch) (entries : List Entry) → IsRunFrom s entries → Standing s → Stands s → Stands (run_from s entries)
@@ -213,7 +213,8 @@ step_holds : (s : Switch) (entry : Entry) → IsNew s.conns s.drawn.conns → Ho
 unfolding step
 step_holds s entry new h =
     let now : Switch = at_moment entry.moment s in
-    let acted : Held (Some 1) (act_done entry.act now).state = acted_kept now Held (held_moves now) entry.act (h, new) in
+    let acted : Held (Some 1) (act_done entry.act now).state =
+    acted_kept now Held (held_moves now) entry.act (λ loads config t k. k) (h, new) in
     acted.0
 
 run_holds : (s : Switch) (entries : List Entry) → IsRunFrom s entries → Orderly s → Holds s.channels s.conns →
@@ -270,7 +271,7 @@ closed_counted s t cost numbers same_settings same least few_slots room h =
     }
 
 acted_numbers : (a : Act) (s : Switch) → Numbers 1 (seen s) (seen (act_done a s).state)
-acted_numbers a s = acted_kept s (NumbersFrom (seen s)) (numbers_moves (seen s) s) a (numbers_stay (seen s))
+acted_numbers a s = acted_kept s (NumbersFrom (seen s)) (numbers_moves (seen s) s) a (λ loads config t k. k) (numbers_stay (seen s))
 
 step_counted : (s : Switch) (entry : Entry) → s.settings.max_sessions ≤ 256 → s.cost + 65600 ≤ 1073741824 → Counted s →
     Counted (step s entry).state

@@ -28,14 +28,14 @@ use Rattle.fs_seats.specs.declared.numbered.Numbered.{Numbered}
 use Rattle.fs_seats.specs.Seats.{no_seats}
 use Rattle.fs_seats.proofs.HeldLemmas.{nothing_held}
 use Rattle.fs_doc.specs.declared.settings.Settings.{Settings}
-use Rattle.fs_state.specs.Switch.{Switch, empty, chan_at, orig_of, at_moment}
+use Rattle.fs_state.specs.Switch.{Switch, empty, chan_at, orig_of, at_moment, reloaded}
 use Rattle.fs_state.specs.Moves.{partner_of}
 use Rattle.fs_state.proofs.SlotLemmas.{no_seats_length}
 use Rattle.fs_machine.specs.declared.entry.Entry.{Entry}
 use Rattle.fs_machine.specs.Entries.{cost_of}
 use Rattle.fs_machine.specs.Step.{refusal_of, act_done, step}
 use Rattle.fs_machine.specs.Runs.{run_from, IsRunFrom}
-use Rattle.fs_machine.proofs.Kept.{Stage, Fact, KeptByMoves}
+use Rattle.fs_machine.proofs.Kept.{Stage, Fact, KeptByMoves, KeptByReload}
 use Rattle.fs_machine.proofs.TieLemmas.{named_in, Ties}
 use Rattle.fs_machine.proofs.FrameLemmas.{some_cost}
 use Rattle.fs_machine.proofs.JoinMoves.{acted_joins}
@@ -174,7 +174,8 @@ unfolding step
 step_pairs s entry h =
     let now : Switch = at_moment entry.moment s in
     let acted : ArePaired (act_done entry.act now).state =
-    acted_kept now Partners (partners_moves now) entry.act (record { ties = h.ties; zero = h.zero }) in
+    acted_kept now Partners (partners_moves now) entry.act (λ loads config t k. record { ties = k.ties; zero = k.zero })
+    (record { ties = h.ties; zero = h.zero }) in
     record { ties = acted.ties; zero = acted.zero }
 
 -- slots own few originations
@@ -251,8 +252,26 @@ module _ (s : Switch) (few : s.drawn.origs < 2 ^ 30) (h : Standing s) where
       (λ t k slot c there none new. room_there s (jobs_few s h) (all_seats s h) (slots_within s h) t k.1.0.0 slot c there none new)
       (λ t k free new. room_for_job s h.holds.sound.tries (slots_within s h) t k.1.0.0 free new)
 
+  -- nor does any of it see which contexts are in force
+  acting_reloads : KeptByReload Acting
+  acting_reloads config t k =
+      let known : Known s (Some 0) t = k.0.1.0.0 in
+      let owning = known.0 in
+      let partners = known.1.0 in
+      let tries = known.1.1.1.1 in
+      let here : Known s (Some 0) (reloaded config t) = (
+        record { bonds = owning.bonds; owned = owning.owned; room = owning.room },
+        (
+          record { ties = partners.ties; zero = partners.zero },
+          (known.1.1.0, (known.1.1.1.0, record { apart = tries.apart; next = tries.next })),
+        ),
+      ) in
+      ((k.0.0, ((here, k.0.1.0.1), k.0.1.1)), k.1)
+
   pub acted : (what : Act) → Acting (Some 1) (act_done what s).state
-  acted what = acted_kept s Acting acting what (((λ few. h.legs), ((known_first s few h, h.waits), h.held)), h.berths)
+  acted what =
+      acted_kept s Acting acting what (λ loads. acting_reloads)
+      (((λ few. h.legs), ((known_first s few h, h.waits), h.held)), h.berths)
 
 -- the same facts at another moment
 pub at_its_moment : (moment : ℕ) (s : Switch) → Standing s → Standing (at_moment moment s)

@@ -34,7 +34,7 @@ use Rattle.fs_state.specs.declared.job.Asker.{Asker}
 use Rattle.fs_state.specs.declared.job.Asker.TheVariants as asker
 use Rattle.fs_state.specs.declared.job.Job.{Job}
 use Rattle.fs_state.specs.declared.job.JobWork.{JobWork}
-use Rattle.fs_state.specs.declared.job.JobWork.TheVariants.{Sleep, Originate}
+use Rattle.fs_state.specs.declared.job.JobWork.TheVariants.{Originate}
 use Rattle.fs_state.specs.Switch.{Switch, empty, chan_at, with_chan, conn_of, job_of, job_at, orig_of, with_event, without_conn, without_job}
 use Rattle.fs_state.specs.Switch.{without_orig, with_new_job, next_orig_number, with_notice, with_frame_now, at_moment}
 use Rattle.fs_state.specs.Bridging.{joined_as}
@@ -58,6 +58,7 @@ use Rattle.fs_machine.specs.Texts.{made_text, failed_text}
 use Rattle.fs_machine.specs.Jobs.{job_done, job_done_from}
 use Rattle.fs_machine.specs.Work.{after_work, after_work_from, after_work_in}
 use Rattle.fs_machine.specs.Controlling.{dial_at, is_left, conn_behind, after_letting_go, after_leavings}
+use Rattle.fs_machine.specs.Loading.{is_loading_in, waits_for_load}
 use Rattle.fs_machine.specs.Step.{reads, refusal_of, refused_act, acted, act_done, after_close, step}
 use Rattle.fs_machine.specs.Runs.{run_from, IsRunFrom}
 use Rattle.fs_machine.specs.Sound.{IsStill}
@@ -285,7 +286,7 @@ api_still : (by : Giver) → KeptByApi by Still
 api_still by = record {
   spent = λ h. h;
   draws = λ h. inl h;
-  sleeps = λ until {s = s} may room h. begun_going by (Sleep until) s ∙ h;
+  waits = λ what {s = s} wait may room h. begun_going by what s ∙ h;
   originates = λ groups winner caller timeout {s = s} may are short room h. originated_going by groups winner caller timeout s ∙ h;
   leavings = λ {n = n} {s = s} h. still_by (Some n) s (after_leavings s) refl (left_over s) h;
   ends = λ reply notice {s = s} dead h. inr (over_at_end reply notice s dead);
@@ -295,7 +296,7 @@ jobs_still : (before : Switch) → KeptByJobs before Still
 jobs_still before = record {
   out = λ number job does h. h;
   runs = λ number job. api_still (giver.Job number job);
-  woken = λ number who until answer {s = s} does h. ended_going number who answer s ∙ h;
+  woken = λ number who what answer {s = s} wait does h. ended_going number who answer s ∙ h;
   failed = λ job who winner caller orig cause {s = s} does over h. ended_going job who (failed_text cause) (without_orig orig s) ∙ h;
   wins = λ job who winner caller orig leg slots does won h.
       let t : Switch = raced slots before in
@@ -491,6 +492,14 @@ none_dials s h slot some = by (chan_at s slot) refl
     by None is = true≢false (sym (ap is_none (ap (option_and_then dial_of) is)) ∙ some)
     by (Some c) is = its c is (dial_of c) refl
 
+-- nor does a job wait for a load
+none_waits : (s : Switch) → IsOver s → (number : ℕ) → not (waits_for_load number s) ≡ false → ⊥
+none_waits s h number waits = by (job_of s number) refl
+  where
+    by : (found : Option Job) → job_of s number ≡ found → ⊥
+    by None is = true≢false (sym (ap (λ (held : Option Job). not (is_loading_in held)) is) ∙ waits)
+    by (Some job) is = no_job s h number job is
+
 -- no job is there, and nobody reads a command, comes, is dialed, or stops the switch once more
 alone_remains : (a : Act) (s : Switch) → refused_act a s ≡ None → IsOver s → Remains s (acted a s).state
 unfolding job_done
@@ -510,6 +519,8 @@ alone_remains (act.Job number) s none h = by (job_of s number) refl
     by : (found : Option Job) → job_of s number ≡ found → Remains s (job_done_from number found s)
     by None is = itself s h
     by (Some job) is = absurd (no_job s h number job is)
+alone_remains (act.Loaded number note) s none h =
+    absurd (none_waits s h number (none_refused (not (waits_for_load number s)) (refusal.NotDue None) _ none).0)
 
 -- nor does anybody read who parts behind it
 act_remains : (a : Act) (s : Switch) → refused_act a s ≡ None → IsOver s → Remains s (act_done a s).state
@@ -540,7 +551,7 @@ step_over : (s : Switch) (entry : Entry) → refusal_of s entry ≡ None → Goe
 unfolding step
 step_over s entry none (inl going) =
     let now : Switch = at_moment entry.moment s in
-    by (acted_kept now Still (still_moves now) entry.act going)
+    by (acted_kept now Still (still_moves now) entry.act (λ loads config t h. h) going)
   where
     by : GoesOrIsOver (act_done entry.act (at_moment entry.moment s)).state → GoesOrIsOver (step s entry).state
     by (inl goes) = inl goes

@@ -20,7 +20,7 @@ use Rattle.fs_state.specs.declared.conn.Parting.TheVariants as parting
 use Rattle.fs_state.specs.declared.job.Asker.{Asker}
 use Rattle.fs_state.specs.declared.job.Asker.TheVariants as asker
 use Rattle.fs_state.specs.declared.job.JobWork.{JobWork}
-use Rattle.fs_state.specs.declared.job.JobWork.TheVariants.{Sleep, Originate}
+use Rattle.fs_state.specs.declared.job.JobWork.TheVariants.{Originate}
 use Rattle.fs_state.specs.Drawn as numbers
 use Rattle.fs_state.specs.Ending.{ended}
 use Rattle.fs_state.specs.Switch.{Switch, with_new_conn, empty, conn_of, with_new_job, without_job, without_orig, next_orig_number, at_moment}
@@ -131,7 +131,7 @@ api_saw : (by : Giver) → KeptByApi by Seen
 api_saw by = record {
   spent = λ h. h;
   draws = λ h. h;
-  sleeps = λ until {s = s} may room h. begun_saw by (Sleep until) s h;
+  waits = λ what {s = s} wait may room h. begun_saw by what s h;
   originates = λ groups winner caller timeout {s = s} may are short room h. originated_saw by groups winner caller timeout s h;
   leavings = λ {s = s} h. left_saw s h;
   ends = λ reply notice {s = s} dead h seat. stops s.entries (held_in (ended reply notice s).conns seat);
@@ -153,7 +153,7 @@ seen_moves before = record {
   jobs = record {
     out = λ number job does h. h;
     runs = λ number job. api_saw (giver.Job number job);
-    woken = λ number who until answer {s = s} does h. ended_saw number who answer s h;
+    woken = λ number who what answer {s = s} wait does h. ended_saw number who answer s h;
     failed = λ job who winner caller orig cause {s = s} does over h. ended_saw job who (failed_text cause) (without_orig orig s) h;
     wins = λ job who winner caller orig leg slots does won h.
         let t : Switch = raced slots before in
@@ -184,7 +184,8 @@ seen_moves before = record {
 
 step_saw : (s : Switch) (entry : Entry) → AllSaw s → AllSaw (step s entry).state
 unfolding step
-step_saw s entry h = acted_kept (at_moment entry.moment s) Seen (seen_moves (at_moment entry.moment s)) entry.act h
+step_saw s entry h =
+    acted_kept (at_moment entry.moment s) Seen (seen_moves (at_moment entry.moment s)) entry.act (λ loads config t k. k) h
 
 run_saw : (s : Switch) (entries : List Entry) → AllSaw s → AllSaw (run_from s entries)
 run_saw s [] h = h

@@ -1,7 +1,7 @@
 -- Each act keeps what jobs try apart from what slots own.
 use Rattle.fs_text.specs.Texts.{Text}
 use Rattle.fs_state.specs.declared.conn.Parting.TheVariants as parting
-use Rattle.fs_state.specs.declared.job.JobWork.TheVariants.{Run, Sleep, Originate}
+use Rattle.fs_state.specs.declared.job.JobWork.TheVariants.{Run, Originate}
 use Rattle.std.proofs.Common.{unwrap_or, ◌≡◌, ℕ, ◌+◌, ◌-◌, ◌^◌, ◌<◌, ◌≤◌, List, length, Option, None, Some, refl, sym, ap, subst, ◌∙◌, inl, inr}
 use Rattle.std.proofs.Common.{arith}
 use Rattle.std.proofs.lemmas.Option.{none-some, same_Some}
@@ -43,7 +43,7 @@ use Rattle.fs_machine.specs.declared.owing.Giver.TheVariants as giver
 use Rattle.fs_machine.specs.Owing.{job_number, after_job_begin, job_uuid, background_begun, after_job_end}
 use Rattle.fs_machine.proofs.FrontLemmas.{conn_unread}
 use Rattle.fs_machine.proofs.RestLemmas.{Rest}
-use Rattle.fs_machine.proofs.OwedBooks.{Jobs, tried_by}
+use Rattle.fs_machine.proofs.OwedBooks.{Jobs, tried_by, wait_tries}
 
 -- the jobs, the numbers of what slots own, and the last number that was drawn
 pub record Trials : Type 0 where
@@ -322,7 +322,8 @@ trying_api : (by : Giver) → KeptByApi by Trying
 trying_api by = record {
   spent = λ {s = s} h. spent s h;
   draws = λ h. record { apart = h.apart; next = tt };
-  sleeps = λ until {s = s} may room h. begun_trials by (Sleep until) s (λ number tries. absurd (none-some number tries)) h.apart;
+  waits = λ what {s = s} wait may room h. begun_trials by what s
+      (λ number tries. absurd (none-some number (sym (wait_tries what wait) ∙ tries))) h.apart;
   originates = λ groups winner caller timeout {s = s} may are short room h. originates_trials by groups winner caller timeout s h;
   leavings = λ h. record { apart = h.apart; next = tt };
   ends = λ reply notice {s = s} dead h. record { apart = none_apart (length s.jobs) (length s.origs) s.drawn.origs; next = tt };
@@ -334,7 +335,7 @@ trying_moves before = record {
   jobs = record {
     out = λ number job {s = s} does h. left_trials None number s h;
     runs = λ number job. trying_api (giver.Job number job);
-    woken = λ number who until answer {s = s} does h. ended_trials number who answer s h;
+    woken = λ number who what answer {s = s} wait does h. ended_trials number who answer s h;
     failed = λ job who winner caller orig cause {s = s} does over h.
         ended_trials job who (failed_text cause) (without_orig orig s) (without_trials orig s h);
     wins = λ job who winner caller orig leg slots does won h.

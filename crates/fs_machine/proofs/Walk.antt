@@ -62,7 +62,7 @@ use Rattle.fs_machine.specs.Bridging.{after_bridge_win, disposed}
 use Rattle.fs_machine.specs.Controlling.{names_target, may_dial, after_socket, completed_by, with_completion_of, let_go_from, let_go_in}
 use Rattle.fs_machine.specs.Controlling.{slot_controlled_by, after_letting_go}
 use Rattle.fs_machine.specs.Dialing.{bridge_timeout, bridge_begun_from, bridge_dialed, after_dialing}
-use Rattle.fs_machine.specs.Work.{with_variables, routed_to, has_xml, actions_for, too_long_cause, found_for, routed_by, after_routing_from}
+use Rattle.fs_machine.specs.Work.{with_variables, routed_to, has_xml, actions_for, too_long_cause, wall_of, found_for, routed_by, after_routing_from}
 use Rattle.fs_machine.specs.Work.{first_state, after_wait, after_work_in, after_work_from, after_work}
 use Rattle.fs_machine.specs.Originations.{Made, made_dead, made_in, with_second, free_pair, is_congested, loopback_made, set_all}
 use Rattle.fs_machine.specs.Originations.{no_variables, own_uuid, call_with, is_misnamed, made_with, made_of, leg_made, group_made}
@@ -524,8 +524,8 @@ module _ (before : Switch) (P : Fact) (kept : KeptByCalls P) (dials : KeptByDial
   routing_kept slot c {s} there is h =
       either P kept.touches (may_route c)
       (routed_by_kept (found_for c s) slot c there is
-      (λ hunt found limited. found_limited (hunted s.contexts c.profile.context c.profile c.vars s.globals) hunt found
-      (hunted_limited s.contexts c.profile.context c.profile c.vars s.globals limited)) h)
+      (λ hunt found limited. found_limited (hunted s.contexts c.profile.context c.profile c.vars s.globals (wall_of s)) hunt found
+      (hunted_limited s.contexts c.profile.context c.profile c.vars s.globals (wall_of s) limited)) h)
       (hung_up_kept ExchangeRoutingError slot h)
 
   -- ---- the end of channels

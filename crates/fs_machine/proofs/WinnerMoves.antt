@@ -17,7 +17,7 @@ use Rattle.fs_state.specs.declared.job.Asker.{Asker}
 use Rattle.fs_state.specs.declared.job.Asker.TheVariants as asker
 use Rattle.fs_state.specs.declared.job.Job.{Job}
 use Rattle.fs_state.specs.declared.job.JobWork.{JobWork}
-use Rattle.fs_state.specs.declared.job.JobWork.TheVariants.{Run, Sleep, Originate}
+use Rattle.fs_state.specs.declared.job.JobWork.TheVariants.{Run, Sleep, Originate, Load}
 use Rattle.fs_state.specs.Switch.{Switch, next_orig_number, next_job_number, with_new_job, without_job, without_orig}
 use Rattle.fs_state.specs.Switch.{with_next_identifier}
 use Rattle.fs_machine.specs.Texts.{made_text, failed_text}
@@ -27,7 +27,7 @@ use Rattle.fs_machine.specs.Attempts.{first_group, orig_begun, originate_begun}
 use Rattle.fs_machine.specs.declared.owing.Giver.{Giver}
 use Rattle.fs_machine.specs.declared.owing.Giver.TheVariants as giver
 use Rattle.fs_machine.specs.Owing.{job_number, after_job_begin, job_uuid, background_begun, after_job_end}
-use Rattle.fs_machine.proofs.Kept.{Fact, DoesJob, raced, IsShortWinner, KeptByApi, KeptByMoves}
+use Rattle.fs_machine.proofs.Kept.{Fact, IsWait, DoesJob, raced, IsShortWinner, KeptByApi, KeptByMoves}
 use Rattle.fs_machine.proofs.FrontLemmas.{conn_unread}
 use Rattle.fs_machine.proofs.RestLemmas.{Rest, rest_of, calls_by_rest, dials_by_rest, group_made_rest, won_rest}
 
@@ -36,6 +36,14 @@ abbrev pub IsShortWork : JobWork → Type 0
 IsShortWork Run = Unit {0}
 IsShortWork (Sleep until) = Unit {0}
 IsShortWork (Originate orig winner caller) = IsShortWinner winner
+IsShortWork Load = Unit {0}
+
+-- work that only waits has none
+wait_is_short : (what : JobWork) → IsWait what → IsShortWork what
+wait_is_short Run wait = tt
+wait_is_short (Sleep until) wait = tt
+wait_is_short (Originate orig winner caller) wait = absurd wait
+wait_is_short Load wait = tt
 
 abbrev pub ShortIn : Option (Numbered Job) → Type 0
 ShortIn None = Unit {0}
@@ -109,7 +117,7 @@ winners_api : (by : Giver) → KeptByApi by Winners
 winners_api by = record {
   spent = λ h. h;
   draws = λ h. h;
-  sleeps = λ until {s = s} may room h. owing_winners by (Sleep until) s tt h;
+  waits = λ what {s = s} wait may room h. owing_winners by what s (wait_is_short what wait) h;
   originates = λ groups winner caller timeout {s = s} may are short room h. originates_winners by groups winner caller timeout s short h;
   leavings = λ h. h;
   ends = λ reply notice {s = s} dead h. no_winners (length s.jobs);
@@ -132,7 +140,7 @@ winners_moves before = record {
   jobs = record {
     out = λ number job {s = s} does h. left_winners number s h;
     runs = λ number job. winners_api (giver.Job number job);
-    woken = λ number who until answer {s = s} does h. ended_winners number who answer s h;
+    woken = λ number who what answer {s = s} wait does h. ended_winners number who answer s h;
     failed = λ job who winner caller orig cause {s = s} does over h. ended_winners job who (failed_text cause) (without_orig orig s) h;
     wins = λ job who winner caller orig leg slots does won h.
         let t : Switch = raced slots before in

@@ -32,6 +32,7 @@ use Rattle.fs_machine.specs.Dumping.{dump_text}
 use Rattle.fs_machine.specs.Hangups.{after_hangup_of_all}
 use Rattle.fs_machine.specs.Joining.{uuid_bridge_done}
 use Rattle.fs_machine.specs.Leaving.{sent_done}
+use Rattle.fs_machine.specs.Loading.{reload_begun}
 use Rattle.fs_machine.specs.Shutdown.{after_shutdown}
 use Rattle.fs_machine.specs.Texts.{ok, yes, no, limit_passed, too_long_text, usage_text, api_not_found, no_channel, undefined}
 use Rattle.fs_machine.specs.Texts.{hupall_text, too_many_jobs, failed_text}
@@ -155,6 +156,7 @@ done_plainly by (api.UuidGetvar uuid name) s = says (variable_text name (chan_na
 done_plainly by (api.UuidDump uuid) s = says (dump_text (chan_named uuid s)) s
 done_plainly by (api.Hupall cause) s = hupall_done cause s
 done_plainly by api.Shutdown s = shutdown_done s
+done_plainly by api.Reloadxml s = reload_begun by s
 done_plainly by (api.Originate url winner cid_name cid_number timeout) s =
     originate_done by url winner (record { name = cid_name; number = cid_number }) timeout s
 done_plainly by (api.Usage which) s = says (usage_text (usage_of which)) s

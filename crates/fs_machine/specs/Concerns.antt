@@ -9,7 +9,7 @@ use Rattle.fs_state.specs.declared.conn.Parting.TheVariants as parting
 use Rattle.fs_state.specs.Switch.{Switch, waiting_for}
 use Rattle.fs_machine.specs.declared.entry.Entry.{Entry}
 use Rattle.fs_machine.specs.declared.entry.Act.{Act}
-use Rattle.fs_machine.specs.declared.entry.Act.TheVariants.{Arrive, Command, Take, Close, Dialed, Work, Job, Halt}
+use Rattle.fs_machine.specs.declared.entry.Act.TheVariants.{Arrive, Command, Take, Close, Dialed, Work, Job, Loaded, Halt}
 use Rattle.fs_machine.specs.Connections.{phase_at}
 use Rattle.fs_machine.specs.Controlling.{coming_number, held_through}
 use Rattle.fs_machine.specs.Questions.{owed_to, parting_at}
@@ -25,6 +25,7 @@ actor_of (Close conn how) = Some conn
 actor_of (Dialed slot linked) = None
 actor_of (Work slot) = None
 actor_of (Job number) = None
+actor_of (Loaded number note) = None
 actor_of Halt = None
 
 -- An act of its own, while it is open. What waited for it, and then what it is given, is what is handed out to it, and then what waits.
@@ -80,6 +81,7 @@ comer_of (Close conn how) s = None
 comer_of (Dialed slot linked) s = held_through linked slot s
 comer_of (Work slot) s = None
 comer_of (Job number) s = None
+comer_of (Loaded number note) s = None
 comer_of Halt s = None
 
 -- the phase in which it is then: one that arrives gives no command but its password, the one of a controller gives all

@@ -16,9 +16,10 @@ use Rattle.fs_seats.specs.Seats.{first_seat}
 use Rattle.fs_seats.specs.Least.{lesser, least_of}
 use Rattle.fs_state.specs.declared.job.Job.{Job}
 use Rattle.fs_state.specs.declared.job.JobWork.{JobWork}
-use Rattle.fs_state.specs.declared.job.JobWork.TheVariants.{Run, Sleep, Originate}
+use Rattle.fs_state.specs.declared.job.JobWork.TheVariants.{Run, Sleep, Originate, Load}
 use Rattle.fs_state.specs.Queues.{has_caller}
 use Rattle.fs_state.specs.Switch.{Switch, chan_at, orig_of, job_of, at_moment}
+use Rattle.fs_machine.specs.Loading.{waits_for_load}
 use Rattle.fs_machine.specs.declared.due.DueActor.{DueActor}
 use Rattle.fs_machine.specs.declared.due.DueActor.TheVariants as actor
 
@@ -56,6 +57,7 @@ abbrev pub work_due : Switch → JobWork → Option Due
 work_due s Run = Some Now
 work_due s (Sleep until) = Some (due_at s.moment until)
 work_due s (Originate orig winner caller) = orig_due s.moment (orig_of s orig)
+work_due s Load = Some Now
 
 -- when the job of a number has something to do
 abbrev pub job_due : ℕ → Switch → Option Due
@@ -132,9 +134,13 @@ actor_or actor (Some number) otherwise = actor number
 abbrev pub later_or_never : Option ℕ → DueActor
 later_or_never moment = actor_or actor.Later moment actor.Never
 
+-- the job of a number has something to do, or waits for a load
+abbrev pub turn_of_job : Switch → ℕ → DueActor
+turn_of_job s number = if waits_for_load number s then actor.Load number else actor.Job number
+
 -- the least job that has something to do, or else the next moment at which one has
 abbrev pub due_among_jobs : Switch → DueActor
-due_among_jobs s = actor_or actor.Job (due_job s) (later_or_never (first_job_moment s))
+due_among_jobs s = actor_or (turn_of_job s) (due_job s) (later_or_never (first_job_moment s))
 
 -- the channel in a slot has something to do, or waits until a controller was dialed
 abbrev pub turn_of : Switch → ℕ → DueActor
@@ -142,7 +148,7 @@ turn_of s slot = if dials (chan_at s slot) then actor.Dial slot else actor.Slot 
 
 -- the least job that has something to do, or else the next moment at which a channel or a job has
 abbrev pub due_but_slots : Switch → DueActor
-due_but_slots s = actor_or actor.Job (due_job s) (later_or_never (lesser (first_chan_moment s) (first_job_moment s)))
+due_but_slots s = actor_or (turn_of_job s) (due_job s) (later_or_never (lesser (first_chan_moment s) (first_job_moment s)))
 
 -- the least slot, or else the least job, that has something to do, or else the next moment at which one has
 abbrev pub due_among_all : Switch → DueActor

@@ -7,7 +7,7 @@ use Rattle.fs_state.specs.declared.job.Asker.TheVariants as asker
 use Rattle.fs_state.specs.declared.job.Background.{Background}
 use Rattle.fs_state.specs.declared.job.Job.{Job}
 use Rattle.fs_state.specs.declared.job.JobWork.{JobWork}
-use Rattle.fs_state.specs.declared.job.JobWork.TheVariants.{Run, Sleep, Originate}
+use Rattle.fs_state.specs.declared.job.JobWork.TheVariants.{Run, Sleep, Originate, Load}
 use Rattle.fs_state.specs.Switch.{Switch, job_of, with_event, without_job}
 use Rattle.fs_machine.specs.declared.attempts.Party.TheVariants as party
 use Rattle.fs_machine.specs.declared.owing.Giver.TheVariants as giver
@@ -34,13 +34,14 @@ command_run number job s = after_run job (done_by (giver.Job number job) (api_of
 
 -- ---- all that jobs do
 
--- what comes of the work of a job, where it has something to do
+-- what comes of the work of a job, where it has something to do; what waits for a load does nothing by itself
 abbrev pub after_job_work : JobWork → ℕ → Asker → Switch → Switch
 after_job_work Run number (asker.Conn conn) s = s
 after_job_work Run number (asker.Background job) s = command_run number job s
 after_job_work (Sleep until) number who s = after_job_end number who ok s
 after_job_work (Originate orig winner caller) number who s =
     after_verdict_on (record { orig = orig; party = party.Job number who winner caller }) s
+after_job_work Load number who s = s
 
 -- what the job of a number does, if it is there
 abbrev pub job_done_from : ℕ → Option Job → Switch → Switch

@@ -7,6 +7,8 @@ pub mod Here
 pub mod Originations
 pub mod Bridging
 pub mod Owing
+pub mod Done
+pub mod Loading
 pub mod Attempts
 pub mod Dialing
 pub mod Controlling
@@ -15,7 +17,6 @@ pub mod Applications
 pub mod Channels
 pub mod Work
 pub mod Jobs
-pub mod Done
 pub mod Hangups
 pub mod Shutdown
 pub mod Joining

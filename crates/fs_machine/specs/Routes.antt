@@ -1,5 +1,6 @@
 -- What a route of a channel rests on, how often that changed, and a route that was planned of it.
-use Rattle.std.specs.Prelude.{◌≡◌, ◌≢◌, ℕ, ◌+◌, ◌-◌, ◌^◌, min, Bool, true, false, ◌&&◌, if◌then◌else◌, List, [], ◌∷◌, Option, None, Some, Ok, Err, Result, length, slice_index}
+use mathlib.Core.List.{IsPrefix}
+use Rattle.std.specs.Prelude.{◌≡◌, ◌≢◌, ℕ, ℤ, ◌+◌, ◌-◌, ◌^◌, min, Bool, true, false, ◌&&◌, if◌then◌else◌, List, [], ◌∷◌, Option, None, Some, Ok, Err, Result, length, slice_index}
 use Rattle.std.specs.Arc.{arc_value}
 use Rattle.std.specs.Option.{option_map}
 use Rattle.fs_text.specs.Texts.{Text}
@@ -15,7 +16,7 @@ use Rattle.fs_chan.specs.Changes.{may_route}
 use Rattle.fs_plan.specs.declared.hunt.Hunt.{Hunt}
 use Rattle.fs_plan.specs.Outcomes.{Outcome, IsFault}
 use Rattle.fs_plan.specs.Hunting.{hunted}
-use Rattle.fs_state.specs.Switch.{Switch, chan_at, empty}
+use Rattle.fs_state.specs.Switch.{Switch, chan_at, empty, at_moment}
 use Rattle.fs_machine.specs.declared.entry.Entry.{Entry}
 use Rattle.fs_machine.specs.declared.entry.Act.TheVariants.{Work}
 use Rattle.fs_machine.specs.declared.offer.Offer.{Offer}
@@ -25,7 +26,9 @@ use Rattle.fs_machine.specs.declared.routes.Snapshot.{Snapshot}
 use Rattle.fs_machine.specs.declared.refusal.RouteRefusal.{RouteRefusal}
 use Rattle.fs_machine.specs.declared.refusal.RouteRefusal.TheVariants.{Again, Step}
 use Rattle.fs_machine.specs.Step.{step, IsRefusedFor}
-use Rattle.fs_machine.specs.Work.{found_for}
+use Rattle.fs_machine.specs.Work.{found_for, wall_of}
+use Rattle.fs_machine.specs.Laws.{state_after}
+use Rattle.fs_machine.specs.Loading.{load_at}
 use Rattle.fs_machine.specs.Runs.{View, state_of, run_from}
 
 -- ---- what a route rests on
@@ -97,6 +100,19 @@ pub record AreKept (config : Configuration) (journal : List Entry) (counts : Lis
   pub each : (slot : ℕ) → IsTouched config journal slot (slice_index counts slot)
   pub all : length counts ≡ length (run_from (empty config) journal).channels
 
+-- ---- which dialplan is in force
+
+-- these contexts were in force after so many loads: so it was behind a front of the journal, and so behind each longer journal
+pub record IsInForceAfter (config : Configuration) (journal : List Entry) (reloads : ℕ) (contexts : List Context) : Type 0 where
+  pub before : List Entry
+  pub front : IsPrefix before journal
+  pub count : (state_after config before).reloads ≡ reloads
+  pub contexts_are : (state_after config before).contexts ≡ contexts
+
+-- the minute at a moment, which does not go back
+abbrev pub wall_at : ℕ → Switch → ℤ
+wall_at moment s = wall_of (at_moment moment s)
+
 -- ---- copies of it, and a plan
 
 -- what a snapshot shows
@@ -109,20 +125,22 @@ pub record IsOf (seen : Snapshot) (c : Chan) : Type 0 where
   pub vars : c.vars ≡ seen.vars
   pub profile : c.profile ≡ seen.profile
 
--- a snapshot of the channel in a slot
-pub record Shows (m : View) (slot : ℕ) (seen : Snapshot) : Type 0 where
+-- a snapshot of the channel in a slot at a moment
+pub record Shows (m : View) (moment slot : ℕ) (seen : Snapshot) : Type 0 where
   pub routable : is_routable slot (state_of m) ≡ true
   pub basis : basis_at slot (state_of m) ≡ Some (shown seen)
   pub touched : IsTouched m.config m.journal slot seen.touched
-  pub dialplan : arc_value seen.dialplan ≡ m.config.contexts
+  pub reloads : seen.reloads ≡ (state_of m).reloads
+  pub wall : seen.wall ≡ wall_at moment (state_of m)
+  pub dialplan : arc_value seen.dialplan ≡ (state_of m).contexts
 
--- what a hunt of what a snapshot shows gives, through these contexts
-abbrev pub hunt_in : List Context → Basis → Outcome Hunt
-hunt_in contexts basis = hunted contexts basis.profile.context basis.profile basis.vars basis.globals
+-- what a hunt of what a snapshot shows gives, through these contexts at a minute
+abbrev pub hunt_in : List Context → Basis → ℤ → Outcome Hunt
+hunt_in contexts basis wall = hunted contexts basis.profile.context basis.profile basis.vars basis.globals wall
 
 -- what a hunt for a snapshot gives, through its dialplan
 abbrev pub hunt_for : Snapshot → Outcome Hunt
-hunt_for seen = hunt_in (arc_value seen.dialplan) (shown seen)
+hunt_for seen = hunt_in (arc_value seen.dialplan) (shown seen) seen.wall
 
 -- this is what it gives; want of memory says nothing of it
 abbrev pub IsHuntFor : Snapshot → Result Hunt Refused → Type 0
@@ -138,9 +156,15 @@ abbrev pub IsPlanOf : Snapshot → Option Plan → Type 0
 IsPlanOf seen None = (len : ℕ) × (hunt_for seen ≡ Err len)
 IsPlanOf seen (Some plan) = (plan.seen ≡ seen) × IsPlan plan
 
--- what the plan was made of is what stands in the slot
-abbrev pub IsCurrent : ℕ → Plan → Switch → Type 0
-IsCurrent slot plan s = basis_at slot s ≡ Some (shown plan.seen)
+-- what was seen stands in the slot at a moment, with the contexts that are in force and at the same minute
+pub record IsCurrentBy (moment slot : ℕ) (seen : Snapshot) (s : Switch) : Type 0 where
+  pub basis : basis_at slot s ≡ Some (shown seen)
+  pub reloads : seen.reloads ≡ s.reloads
+  pub wall : seen.wall ≡ wall_at moment s
+
+-- so does what a plan was made of
+abbrev pub IsCurrent : ℕ → ℕ → Plan → Switch → Type 0
+IsCurrent moment slot plan s = IsCurrentBy moment slot plan.seen s
 
 -- the channel in a slot is to be routed, and this is what a hunt for it gives
 pub record IsHunted (slot : ℕ) (hunt : Hunt) (s : Switch) : Type 0 where
@@ -159,14 +183,23 @@ work_at moment slot = record { moment = moment; act = Work slot }
 abbrev pub entry_of : Offer → Entry
 entry_of (offer.Entry entry) = entry
 entry_of (offer.Route moment slot plan) = work_at moment slot
+entry_of (offer.Load moment job load) = load_at moment job load.note
 
--- a plan fits where its hunt is right, and its dialplan is the one that was configured
-abbrev pub Suits : Configuration → Plan → Type 0
-Suits config plan = (arc_value plan.seen.dialplan ≡ config.contexts) × IsPlan plan
+-- a plan fits behind a journal where its hunt is right, and its dialplan was in force there after as many loads as it says
+pub record Suits (config : Configuration) (journal : List Entry) (plan : Plan) : Type 0 where
+  pub in_force : IsInForceAfter config journal plan.seen.reloads (arc_value plan.seen.dialplan)
+  pub plan_is : IsPlan plan
 
--- why a plan is refused: what it rests on does not stand there any more, and so many entries have changed that; or else the entry is
+-- What is present where a plan is not current: so many entries have changed what the route rests on, so many loads brought other contexts,
+-- and it is this minute.
+pub record IsPresent (config : Configuration) (journal : List Entry) (moment slot touched reloads : ℕ) (wall : ℤ) : Type 0 where
+  pub count : IsTouched config journal slot touched
+  pub reloads_are : reloads ≡ (state_after config journal).reloads
+  pub wall_is : wall ≡ wall_at moment (state_after config journal)
+
+-- why a plan is refused: what it rests on does not stand there any more, and this is what is present; or else the entry is
 abbrev pub IsRouteRefusal : View → ℕ → ℕ → Plan → RouteRefusal → Type 0
-IsRouteRefusal m moment slot plan (Again touched) =
-    (basis_at slot (state_of m) ≢ Some (shown plan.seen)) × IsTouched m.config m.journal slot touched
+IsRouteRefusal m moment slot plan (Again touched reloads wall) =
+    (¬ (IsCurrent moment slot plan (state_of m))) × IsPresent m.config m.journal moment slot touched reloads wall
 IsRouteRefusal m moment slot plan (Step refusal) =
-    IsCurrent slot plan (state_of m) × IsRefusedFor (state_of m) (work_at moment slot) refusal
+    IsCurrent moment slot plan (state_of m) × IsRefusedFor (state_of m) (work_at moment slot) refusal

@@ -1,5 +1,6 @@
 -- The run of a journal.
-use Rattle.std.specs.Prelude.{◌≡◌, ◌≤◌, ℕ, List, [], ◌∷◌, None}
+use Rattle.std.specs.Prelude.{◌≡◌, ◌≤◌, ℕ, List, [], ◌∷◌, None, option_map, unwrap_or}
+use Rattle.std.specs.Arc.{arc_value}
 use Rattle.fs_text.specs.Texts.{Text}
 use Rattle.fs_doc.specs.Reading.{Configuration}
 use Rattle.fs_event.specs.Rings.{Events}
@@ -55,6 +56,11 @@ pub record IsPrepared (s : Switch) (entry : Entry) (delta : Delta) (reply : Repl
   pub steps : step s entry ≡ record { state = after_entry (cost_of entry.act) (after s delta); reply = reply }
   pub fits : Fits s delta
 
+-- the dialplan of a change, if it has one, is that of the contexts that come into force by it
+abbrev pub BringsContexts : Switch → Change → Type 0
+BringsContexts s change = unwrap_or (option_map arc_value change.dialplan) s.contexts ≡ (after s change.delta).contexts
+
 -- a change is that of an entry which was asked for
 abbrev pub Changes : Switch → Entry → Change → Type 0
-Changes s asked change = (change.entry ≡ asked) × IsPrepared s change.entry change.delta change.reply
+Changes s asked change =
+    (change.entry ≡ asked) × IsPrepared s change.entry change.delta change.reply × BringsContexts s change

@@ -13,17 +13,19 @@ use Rattle.fs_filter.specs.Subscriptions.{nothing}
 use Rattle.fs_state.specs.Drawn as numbers
 use Rattle.fs_state.specs.Posting.{with_posts}
 use Rattle.fs_state.specs.Switch.{Switch, with_new_conn, without_conn, with_frame_taken, waiting_for, is_full_of_conns, with_frame_now, is_full}
+use Rattle.fs_state.specs.Switch.{is_full_for_load}
 use Rattle.fs_state.specs.Switch.{at_moment, after_entry}
 use Rattle.fs_machine.specs.declared.entry.Entry.{Entry}
 use Rattle.fs_machine.specs.declared.entry.Act.{Act}
-use Rattle.fs_machine.specs.declared.entry.Act.TheVariants.{Arrive, Command, Take, Close, Dialed, Work, Job, Halt}
+use Rattle.fs_machine.specs.declared.entry.Act.TheVariants.{Arrive, Command, Take, Close, Dialed, Work, Job, Loaded, Halt}
 use Rattle.fs_machine.specs.declared.entry.Closing.{Closing}
 use Rattle.fs_machine.specs.declared.entry.Closing.TheVariants.{EndOfInput, Sent, Failed}
 use Rattle.fs_machine.specs.declared.reply.Reply.{Reply}
 use Rattle.fs_machine.specs.declared.reply.Reply.TheVariants as reply
 use Rattle.fs_machine.specs.declared.refusal.Refusal.{Refusal}
 use Rattle.fs_machine.specs.declared.refusal.Refusal.TheVariants as refusal
-use Rattle.fs_machine.specs.Entries.{cost_of}
+use Rattle.fs_machine.specs.Entries.{cost_of, is_load}
+use Rattle.fs_machine.specs.Loading.{waits_for_load, after_load}
 use Rattle.fs_machine.specs.Connections.{phase_at, conn_changed, parted}
 use Rattle.fs_machine.specs.Questions.{owed_to}
 use Rattle.fs_machine.specs.Controlling.{dial_at, held_through, after_dial, after_letting_go, after_leavings}
@@ -93,6 +95,14 @@ not_due (Some (At moment)) = Some (refusal.NotDue (Some moment))
 abbrev pub refused_dial : ℕ → Switch → Option Refusal
 refused_dial slot s = refused_where (is_none (dial_at s slot)) (refusal.NotDue None) None
 
+-- why the job of a number does nothing: it waits for a load, or there is nothing to do yet
+abbrev pub refused_job : ℕ → Switch → Option Refusal
+refused_job number s = refused_where (waits_for_load number s) (refusal.NotDue None) (not_due (job_due number s))
+
+-- why no load is noted for the job of a number: it waits for none
+abbrev pub refused_load : ℕ → Switch → Option Refusal
+refused_load number s = refused_where (not (waits_for_load number s)) (refusal.NotDue None) None
+
 -- why a connection cannot give a command
 abbrev pub refused_command : ℕ → Switch → Option Refusal
 refused_command conn s = refused_where (not (reads (phase_at s conn))) refusal.Gone (busy (owed_to s conn))
@@ -118,18 +128,30 @@ refused_act (Take conn) s =
 refused_act (Close conn how) s = refused_close conn how s
 refused_act (Dialed slot linked) s = refused_dial slot s
 refused_act (Work slot) s = not_due (slot_due slot s)
-refused_act (Job number) s = not_due (job_due number s)
+refused_act (Job number) s = refused_job number s
+refused_act (Loaded number note) s = refused_load number s
 refused_act Halt s = refused_at_end s None
 
--- why each entry is refused, where the journal is full
+-- that the journal is full
+abbrev pub full_journal : Switch → Refusal
+full_journal s = refusal.JournalFull s.cost s.settings.journal_limit
+
+-- why each entry but that of a load is refused, where the journal is full
 abbrev pub refused_as_full : Switch → Option Refusal
-refused_as_full s = refused_where (is_full s) (refusal.JournalFull s.cost s.settings.journal_limit) None
+refused_as_full s = refused_where (is_full s) (full_journal s) None
+
+-- why that of a load is refused, where it has no room for one
+abbrev pub refused_as_full_for_load : Switch → Option Refusal
+refused_as_full_for_load s = refused_where (is_full_for_load s) (full_journal s) None
+
+-- the journal has no room for the largest entry that there may be instead of this one
+abbrev pub is_full_for : Act → Switch → Bool
+is_full_for act s = if is_load act then is_full_for_load s else is_full s
 
 -- the first refusal of an entry
 unfoldable pub refusal_of : Switch → Entry → Option Refusal
 refusal_of s entry =
-    refused_where (is_full s) (refusal.JournalFull s.cost s.settings.journal_limit)
-    (refused_act entry.act (at_moment entry.moment s))
+    refused_where (is_full_for entry.act s) (full_journal s) (refused_act entry.act (at_moment entry.moment s))
 
 -- this is why an entry is refused, or there was no memory
 abbrev pub IsRefusedFor : Switch → Entry → Refusal → Type 0
@@ -180,6 +202,7 @@ acted (Close conn how) s = record { state = after_close how conn s; reply = repl
 acted (Dialed slot linked) s = record { state = after_dial linked slot s; reply = reply.Dialed (held_through linked slot s) }
 acted (Work slot) s = record { state = after_work slot s; reply = reply.Worked }
 acted (Job number) s = record { state = job_done number s; reply = reply.Worked }
+acted (Loaded number note) s = record { state = after_load note number s; reply = reply.Worked }
 acted Halt s = record { state = after_shutdown s; reply = reply.Halted }
 
 -- what an act does: behind it each connection parts whose channel has left it

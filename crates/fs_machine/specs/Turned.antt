@@ -1,12 +1,13 @@
 -- The switch as a state that takes entries in turn.
-use Rattle.std.specs.Prelude.{◌≡◌, ◌≢◌, ℕ, Bool, true, false, List, [], ◌∷◌, ◌++◌, Option, None, Some, is_some}
+use mathlib.Core.List.{IsPrefix}
+use Rattle.std.specs.Prelude.{◌≡◌, ℕ, ℤ, Bool, true, false, List, [], ◌∷◌, ◌++◌, Option, None, is_some}
 use Rattle.fs_state.specs.Switch.{Switch}
 use Rattle.fs_doc.specs.Reading.{Configuration}
 use Rattle.fs_doc.specs.Limits.{IsWithin}
 use Rattle.fs_machine.specs.declared.answer.Answer.{Answer}
 use Rattle.fs_machine.specs.declared.entry.Entry.{Entry}
 use Rattle.fs_machine.specs.declared.entry.Act.{Act}
-use Rattle.fs_machine.specs.declared.entry.Act.TheVariants.{Arrive, Command, Take, Close, Dialed, Work, Job, Halt}
+use Rattle.fs_machine.specs.declared.entry.Act.TheVariants.{Arrive, Command, Take, Close, Dialed, Work, Job, Loaded, Halt}
 use Rattle.fs_machine.specs.declared.reply.Reply.{Reply}
 use Rattle.fs_machine.specs.declared.refusal.Refusal.{Refusal}
 use Rattle.fs_machine.specs.declared.refusal.RouteRefusal.{RouteRefusal}
@@ -19,9 +20,12 @@ use Rattle.fs_machine.specs.Runs.{View}
 use Rattle.fs_machine.specs.Laws.{IsRun, state_after}
 use Rattle.fs_machine.specs.Concerns.{actor_of}
 use Rattle.fs_machine.specs.Controlling.{held_through}
-use Rattle.fs_machine.specs.Routes.{basis_at, shown, entry_of, work_at, Suits, IsCurrent, IsTouched}
+use Rattle.fs_machine.specs.Entries.{is_load}
+use Rattle.fs_machine.specs.Loading.{load_at, IsLoad}
+use Rattle.fs_machine.specs.Routes.{entry_of, work_at, Suits, IsCurrent, IsPresent}
 use Rattle.fs_machine.specs.Standing.{standing_by}
 use Rattle.fs_book.specs.Numbered.{by_history}
+use Rattle.fs_book.proofs.Lists.{prefix_trans}
 
 -- what a machine was configured by
 abbrev pub configured : View → Configuration
@@ -51,34 +55,55 @@ pub record Refuses (config : Configuration) (log : List Entry) (entry : Entry) (
 
 -- ---- what is submitted
 
--- an entry fits always; a plan where its hunt is right, and its dialplan is the one that was configured
-abbrev pub Fits : Configuration → Offer → Type 0
-Fits config (offer.Entry entry) = Unit {0}
-Fits config (offer.Route moment slot plan) = Suits config plan
+-- an entry fits that notes no load; a plan where its hunt is right, and its dialplan was in force after these or a front of them; a load
+-- where what was built is what its document says
+abbrev pub Fits : Configuration → List Entry → Offer → Type 0
+Fits config log (offer.Entry entry) = is_load entry.act ≡ false
+Fits config log (offer.Route moment slot plan) = Suits config log plan
+Fits config log (offer.Load moment job load) = IsLoad load
+
+-- what fits fits behind more entries too
+pub fits_behind : (config : Configuration) (log more : List Entry) (submitted : Offer) → IsPrefix log more → Fits config log submitted →
+    Fits config more submitted
+fits_behind config log more (offer.Entry entry) front fits = fits
+fits_behind config log more (offer.Route moment slot plan) front fits =
+    let known = fits.in_force in record {
+      in_force = record {
+        before = known.before;
+        front = prefix_trans known.before log more known.front front;
+        count = known.count;
+        contexts_are = known.contexts_are;
+      };
+      plan_is = fits.plan_is;
+    }
+fits_behind config log more (offer.Load moment job load) front fits = fits
 
 -- what a plan was made of is what stands in its slot after these
 abbrev pub IsCurrentAfter : Configuration → List Entry → Offer → Type 0
 IsCurrentAfter config log (offer.Entry entry) = Unit {0}
-IsCurrentAfter config log (offer.Route moment slot plan) = IsCurrent slot plan (state_after config log)
+IsCurrentAfter config log (offer.Route moment slot plan) = IsCurrent moment slot plan (state_after config log)
+IsCurrentAfter config log (offer.Load moment job load) = Unit {0}
 
 -- after these what is submitted is taken: the entry is, and its plan is current
 pub record Takes (config : Configuration) (log : List Entry) (submitted : Offer) (answer : Answer) : Type 0 where
   pub tells : Tells config log (entry_of submitted) answer
   pub current : IsCurrentAfter config log submitted
 
--- after these a plan is not current any more, and so many entries have changed what it rests on
-pub record IsStale (config : Configuration) (log : List Entry) (slot : ℕ) (plan : Plan) (touched : ℕ) : Type 0 where
+-- after these a plan is not current any more, and this is what is present
+pub record IsStale (config : Configuration) (log : List Entry) (moment slot : ℕ) (plan : Plan) (touched reloads : ℕ) (wall : ℤ) : Type 0 where
   pub before : IsJournal config log
-  pub other : basis_at slot (state_after config log) ≢ Some (shown plan.seen)
-  pub count : IsTouched config log slot touched
+  pub other : ¬ (IsCurrent moment slot plan (state_after config log))
+  pub present : IsPresent config log moment slot touched reloads wall
 
 -- after these what is submitted is refused: the entry is, or its plan is not current any more
 abbrev pub Declines : Configuration → List Entry → Offer → RouteRefusal → Type 0
 Declines config log (offer.Entry entry) (Step why) = Refuses config log entry why
-Declines config log (offer.Entry entry) (Again touched) = ⊥
+Declines config log (offer.Entry entry) (Again touched reloads wall) = ⊥
 Declines config log (offer.Route moment slot plan) (Step why) =
-    Refuses config log (work_at moment slot) why × IsCurrent slot plan (state_after config log)
-Declines config log (offer.Route moment slot plan) (Again touched) = IsStale config log slot plan touched
+    Refuses config log (work_at moment slot) why × IsCurrent moment slot plan (state_after config log)
+Declines config log (offer.Route moment slot plan) (Again touched reloads wall) = IsStale config log moment slot plan touched reloads wall
+Declines config log (offer.Load moment job load) (Step why) = Refuses config log (load_at moment job load.note) why
+Declines config log (offer.Load moment job load) (Again touched reloads wall) = ⊥
 
 -- ---- the numbers of connections
 
@@ -91,6 +116,7 @@ comes_by (Close conn how) s = false
 comes_by (Dialed slot linked) s = is_some (held_through linked slot s)
 comes_by (Work slot) s = false
 comes_by (Job number) s = false
+comes_by (Loaded number note) s = false
 comes_by Halt s = false
 
 -- one comes by an entry after these

@@ -1,5 +1,5 @@
 -- What a channel does by itself, state by state.
-use Rattle.std.specs.Prelude.{ℕ, ◌==◌, Bool, true, [], List, length, Ok, Err, codes, if◌then◌else◌, Option, None, Some}
+use Rattle.std.specs.Prelude.{ℕ, ℤ, pos, ◌/◌, ◌==◌, Bool, true, [], List, length, Ok, Err, codes, if◌then◌else◌, Option, None, Some}
 use Rattle.std.specs.Str.{bytes_eq}
 use Rattle.fs_text.specs.declared.states.State.{State}
 use Rattle.fs_text.specs.declared.states.State.TheVariants.{CsNew, CsInit, CsRouting, CsExecute, CsPark, CsConsumeMedia, CsHangup}
@@ -58,9 +58,13 @@ abbrev pub found_in : Outcome Hunt → Option Hunt
 found_in (Err len) = None
 found_in (Ok hunt) = Some hunt
 
+-- the minute in which a switch is
+abbrev pub wall_of : Switch → ℤ
+wall_of s = pos (s.moment / 60000000)
+
 -- what the hunt for a channel gave, unless a text is too long
 abbrev pub found_for : Chan → Switch → Option Hunt
-found_for c s = found_in (hunted s.contexts c.profile.context c.profile c.vars s.globals)
+found_for c s = found_in (hunted s.contexts c.profile.context c.profile c.vars s.globals (wall_of s))
 
 -- a channel is routed by it
 abbrev pub routed_by : Option Hunt → Chan → ℕ → Switch → Switch

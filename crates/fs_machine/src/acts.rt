@@ -1,8 +1,9 @@
 //! What each act of an entry does to a draft.
 
-ghost use Rattle.std.specs.Prelude.{◌≡◌, IfOk};
+ghost use Rattle.std.specs.Prelude.{◌≡◌, false, IfOk};
 ghost use Rattle.fs_state.specs.declared.delta.OutboxChange.TheVariants.{Unchanged};
 ghost use Rattle.fs_state.specs.Drafts.{drafted, Brings};
+ghost use Rattle.fs_machine.specs.Entries.{is_load};
 ghost use Rattle.fs_machine.specs.Step as spec;
 
 use crate::commands::do_command;
@@ -21,10 +22,11 @@ use fs_plan::Dialplan;
 use fs_state::{Conn, Draft, Parting, Phase};
 use fs_text::{Memory, Txt};
 
-/// Does an act, by the dialplan of the configuration; behind it each connection parts whose channel has left it.
+/// Does an act that notes no load, by the dialplan in force; behind it each connection parts whose channel has left it.
 pub(crate) fn do_act(draft: &mut Draft<'_>, dialplan: &Dialplan, act: &Act) -> Result<Reply, Memory>
+    requires other { is_load act.now ≡ false }
     requires outbox { draft.old.delta.outbox ≡ Unchanged }
-    requires dialplan { dialplan.now ≡ draft.old.base.contexts }
+    requires dialplan { dialplan.now ≡ (drafted draft.old).contexts }
     ensures base { draft.new.base ≡ draft.old.base }
     ensures ok { IfOk result (spec.ComesTo (spec.act_done act.now (drafted draft.old)) (drafted draft.new)) }
 {
@@ -35,8 +37,9 @@ pub(crate) fn do_act(draft: &mut Draft<'_>, dialplan: &Dialplan, act: &Act) -> R
 
 // Does an act by itself.
 fn act_alone(draft: &mut Draft<'_>, dialplan: &Dialplan, act: &Act) -> Result<Reply, Memory>
+    requires other { is_load act.now ≡ false }
     requires outbox { draft.old.delta.outbox ≡ Unchanged }
-    requires dialplan { dialplan.now ≡ draft.old.base.contexts }
+    requires dialplan { dialplan.now ≡ (drafted draft.old).contexts }
     ensures base { draft.new.base ≡ draft.old.base }
     ensures ok { IfOk result (spec.ComesTo (spec.acted act.now (drafted draft.old)) (drafted draft.new)) }
 {
@@ -61,6 +64,7 @@ fn act_alone(draft: &mut Draft<'_>, dialplan: &Dialplan, act: &Act) -> Result<Re
             do_job(draft, *job)?;
             Ok(Reply::Worked)
         }
+        Act::Loaded { .. } => unreachable!(),
         Act::Halt => {
             shut_down(draft)?;
             Ok(Reply::Halted)

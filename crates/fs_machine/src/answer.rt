@@ -36,7 +36,11 @@ impl Machine {
                 }
                 wakes
             }
-            Act::Dialed { .. } | Act::Work { .. } | Act::Job { .. } | Act::Halt => {
+            Act::Dialed { .. }
+            | Act::Work { .. }
+            | Act::Job { .. }
+            | Act::Loaded { .. }
+            | Act::Halt => {
                 let mut wakes = busy_in(core, false);
                 add_conns(&mut wakes, core);
                 wakes

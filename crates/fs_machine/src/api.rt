@@ -22,6 +22,7 @@ use crate::hangups::hang_up_everyone;
 use crate::joining::bridge_channels;
 use crate::leaving::{Onward, send_channel};
 use crate::owing::{Giver, begin_job};
+use crate::reloading::reload;
 use crate::shutdown::shut_down;
 use crate::texts::{api_not_found, failed_text, hupall_text, says, usage_text};
 use fs_api::{Api, usage};
@@ -157,6 +158,7 @@ fn run_plainly(draft: &mut Draft<'_>, giver: &Giver, api: &Api) -> Result<Option
         Api::UuidDump { uuid } => dump_channel(draft, uuid),
         Api::Hupall { cause } => hang_up_all(draft, *cause),
         Api::Shutdown => stop_switch(draft),
+        Api::Reloadxml => reload(draft, giver),
         Api::Originate {
             url,
             winner,

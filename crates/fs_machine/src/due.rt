@@ -7,6 +7,7 @@ ghost use Rattle.fs_seats.specs.Seats.{held_in};
 ghost use Rattle.fs_seats.specs.Least as least;
 ghost use Rattle.fs_state.specs.Switch.{chan_at, orig_of};
 ghost use Rattle.fs_machine.specs.Due as spec;
+ghost use Rattle.fs_machine.specs.Loading as loading;
 
 use fs_chan::{Chan, Due};
 use fs_seats::Numbered;
@@ -22,6 +23,8 @@ pub enum DueActor {
     Dial(u16),
     /// The job of this number.
     Job(u64),
+    /// The job of this number, which waits until a load is noted.
+    Load(u64),
     /// Nobody before this moment, in microseconds.
     Later(u64),
     /// Nobody, unless others bring something.
@@ -74,6 +77,7 @@ fn work_due(seen: &Seen<'_>, work: &JobWork) -> Option<Due>
         JobWork::Run => Some(Due::Now),
         JobWork::Sleep { until } => Some(due_at(seen.moment(), *until)),
         JobWork::Originate { orig, .. } => orig_due(seen, *orig),
+        JobWork::Load => Some(Due::Now),
     }
 }
 
@@ -107,7 +111,7 @@ pub(crate) fn due_among_all(seen: &Seen<'_>) -> DueActor
         return turn_of(seen, slot);
     }
     if let Some(job) = due_job(seen) {
-        return DueActor::Job(job);
+        return turn_of_job(seen, job);
     }
     later_or_never(lesser(first_chan_moment(seen), first_job_moment(seen)))
 }
@@ -117,7 +121,7 @@ pub(crate) fn due_among_jobs(seen: &Seen<'_>) -> DueActor
     ensures { result ≡ spec.due_among_jobs seen.now }
 {
     match due_job(seen) {
-        Some(job) => DueActor::Job(job),
+        Some(job) => turn_of_job(seen, job),
         None => later_or_never(first_job_moment(seen)),
     }
 }
@@ -178,6 +182,34 @@ pub(crate) fn dials(seen: &Seen<'_>, slot: u16) -> bool
         Some(chan) => chan.dial_text().is_some(),
         None => false,
     }
+}
+
+// The job of a number has something to do, or waits for a load.
+fn turn_of_job(seen: &Seen<'_>, number: u64) -> DueActor
+    ensures { result ≡ spec.turn_of_job seen.now number }
+{
+    if waits_for_load(seen, number) {
+        DueActor::Load(number)
+    } else {
+        DueActor::Job(number)
+    }
+}
+
+/// Whether the job of a number is there, and waits for a load.
+pub(crate) fn waits_for_load(seen: &Seen<'_>, number: u64) -> bool
+    ensures { result ≡ loading.waits_for_load number seen.now }
+{
+    match seen.job(number) {
+        Some(job) => is_loading(&job.work),
+        None => false,
+    }
+}
+
+/// Whether a job of this work waits for a load.
+pub(crate) fn is_loading(work: &JobWork) -> bool
+    ensures { result ≡ loading.is_loading work.now }
+{
+    matches!(work, JobWork::Load)
 }
 
 /// The least number of a job that has something to do.

@@ -2,11 +2,12 @@
 
 ghost use Rattle.std.specs.Prelude.{◌≡◌, ◌<◌, ◌+◌, ◌^◌, IfOk};
 ghost use Rattle.fs_machine.specs.Concerns.{actor_of};
-ghost use Rattle.fs_machine.specs.Entries.{cost_of};
+ghost use Rattle.fs_machine.specs.Entries.{cost_of, is_load};
 
+use crate::note::LoadNote;
 use fs_text::{Memory, Txt};
 
-/// What an entry costs beside the bytes of its block.
+/// What an entry costs beside the bytes of its block or its document.
 const ENTRY_COST: u64 = 64;
 
 /// One entry of the journal.
@@ -43,6 +44,8 @@ pub enum Act {
     Work { slot: u16 },
     /// The job of a number does so.
     Job { job: u64 },
+    /// A load is noted for the job of a number, which waits for it.
+    Loaded { job: u64, note: LoadNote },
     /// The switch comes to its end.
     Halt,
 }
@@ -59,15 +62,23 @@ pub enum Closing {
 }
 
 impl Act {
-    /// What an entry of this act costs: 64, and for a command the bytes of its block.
+    /// What an entry of this act costs: 64, and for a command the bytes of its block, for a load those of its document.
     pub fn cost(&self) -> u64
         ensures exact { result ≡ cost_of self.now }
         ensures bound { result < 2 ^ 63 + 64 }
     {
         match self {
             Act::Command { block, .. } => ENTRY_COST + block.as_bytes().len() as u64,
+            Act::Loaded { note, .. } => ENTRY_COST + note.document().len() as u64,
             _ => ENTRY_COST,
         }
+    }
+
+    /// Whether it notes a load.
+    pub fn is_load(&self) -> bool
+        ensures { result ≡ is_load self.now }
+    {
+        matches!(self, Act::Loaded { .. })
     }
 
     /// The connection whose act it is; none where it is nobody's.
@@ -103,6 +114,10 @@ impl Act {
             },
             Act::Work { slot } => Act::Work { slot: *slot },
             Act::Job { job } => Act::Job { job: *job },
+            Act::Loaded { job, note } => Act::Loaded {
+                job: *job,
+                note: note.copy()?,
+            },
             Act::Halt => Act::Halt,
         })
     }

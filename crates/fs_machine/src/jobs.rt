@@ -49,6 +49,7 @@ fn do_work(draft: &mut Draft<'_>, number: u64, asker: Asker, work: JobWork) -> R
             };
             judge_attempt(draft, &Attempt { orig, party })
         }
+        JobWork::Load => Ok(()),
     }
 }
 

@@ -23,8 +23,10 @@ mod joining;
 mod journal;
 mod laws;
 mod leaving;
+mod loading;
 mod machine;
 mod messages;
+mod note;
 mod offer;
 mod originations;
 mod owing;
@@ -32,6 +34,7 @@ mod questions;
 mod queueing;
 mod refusal;
 mod refused;
+mod reloading;
 mod replies;
 mod reply;
 mod routes;
@@ -39,6 +42,7 @@ mod routing;
 mod shutdown;
 mod standing;
 mod subscribing;
+mod taking_over;
 mod terms;
 mod texts;
 mod touches;
@@ -55,8 +59,11 @@ pub use laws::{
     identifiers_differ, owes_to_its_jobs, partners_agree, runs_are_sound, stays_stopped,
     takers_are_due, winners_can_join,
 };
+pub use loading::NewPlan;
 pub use machine::{Change, Machine};
+pub use note::LoadNote;
 pub use offer::Offer;
+pub use questions::InForce;
 pub use refusal::{Refusal, RouteRefusal};
 pub use reply::Reply;
 pub use routes::{Plan, Snapshot};

@@ -1,18 +1,20 @@
 //! A switch with the journal of its entries: an entry is judged and prepared, and then done.
 
-ghost use Rattle.std.specs.Prelude.{◌≡◌, [], ◌∷◌, ◌++◌, None, Some, IfOk, IfErr, OnOk};
+ghost use Rattle.std.specs.Arc.{arc_value};
+ghost use Rattle.std.specs.Prelude.{◌≡◌, false, [], ◌∷◌, ◌++◌, None, Some, option_map, unwrap_or, IfOk, IfErr, OnOk};
 ghost use Rattle.fs_doc.specs.Limits.{IsWithin};
 ghost use Rattle.fs_state.specs.declared.delta.OutboxChange.TheVariants.{Unchanged};
 ghost use Rattle.fs_state.specs.Drafts.{drafted};
 ghost use Rattle.fs_state.specs.Switch.{empty, HasRoomWithin};
 ghost use Rattle.fs_state.specs.Waiting.{AreHeld};
-ghost use Rattle.fs_machine.specs.Entries.{cost_with};
+ghost use Rattle.fs_machine.specs.Entries.{cost_with, is_load};
 ghost use Rattle.fs_machine.specs.Step.{act_done, step, refusal_of, IsRefusedFor, ComesTo};
+ghost use Rattle.fs_machine.specs.Step.{is_full_for as full_for, full_journal as full_refusal};
 ghost use Rattle.fs_machine.specs.Runs as spec;
 ghost use Rattle.fs_machine.specs.Sound.{IsSound};
 
 use crate::acts::do_act;
-use crate::entry::Entry;
+use crate::entry::{Act, Entry};
 use crate::journal::Journal;
 use crate::refusal::Refusal;
 use crate::refused::refused_act;
@@ -65,6 +67,8 @@ pub struct Change {
     pub delta: Boxed<Delta>,
     /// What it comes to.
     pub reply: Reply,
+    /// The dialplan that comes into force by it, if one does.
+    pub dialplan: Option<Arc<Dialplan>>,
 }
 
 impl Drop for Change {
@@ -73,21 +77,23 @@ impl Drop for Change {
             entry: _entry,
             delta: _delta,
             reply: _reply,
+            dialplan: _dialplan,
         } = self;
     }
 }
 
 impl Change {
-    /// The entry, what it changes, and the reply to it.
-    fn into_parts(self) -> (Entry, Boxed<Delta>, Reply)
-        ensures { result ≡ (self.entry, self.delta, self.reply) }
+    /// The entry, what it changes, the reply to it, and the dialplan that comes into force by it.
+    fn into_parts(self) -> (Entry, Boxed<Delta>, Reply, Option<Arc<Dialplan>>)
+        ensures { result ≡ (self.entry, self.delta, self.reply, self.dialplan) }
     {
         let Change {
             entry,
             delta,
             reply,
+            dialplan,
         } = self;
-        (entry, delta, reply)
+        (entry, delta, reply, dialplan)
     }
 }
 
@@ -111,7 +117,6 @@ impl Model for Machine {
         × (m.core.switch.settings ≡ (arc_value m.config).settings)
         × (arc_value m.dialplan ≡ m.core.switch.contexts)
         × IsWithin (arc_value m.config)
-        × (m.core.switch.contexts ≡ (arc_value m.config).contexts)
         × AreKept (arc_value m.config) m.journal.entries m.touches };
 }
 
@@ -177,8 +182,10 @@ impl Machine {
         journal
     }
 
-    /// Judges an entry, and prepares what it changes. All memory is taken here; nothing changes but the room.
+    /// Judges an entry that notes no load, and prepares what it changes. All memory is taken here; nothing changes but
+    /// the room.
     pub fn prepare(&mut self, asked: &Entry) -> Result<Change, Refusal>
+        requires { is_load asked.now.act ≡ false }
         ensures same { spec.IsSame self.old self.new }
         ensures refused { IfErr result (IsRefusedFor (spec.state_of self.old) asked.entry.now) }
         ensures free { OnOk result (HasRoomWithin self.old.config.settings.journal_limit (spec.state_of self.old)) }
@@ -207,22 +214,25 @@ impl Machine {
     /// Does what was prepared. It takes no memory.
     pub fn apply(&mut self, change: Change) -> Reply
         requires prepared { spec.IsPrepared (spec.state_of self.old) change.entry change.delta change.reply }
+        requires contexts { spec.BringsContexts (spec.state_of self.old) change }
         requires room { spec.HasRoomFor self.old change.delta }
         ensures config { self.new.config ≡ self.old.config }
         ensures journal { self.new.journal ≡ self.old.journal ++ change.entry ∷ [] }
         ensures reply { result ≡ (step (spec.state_of self.old) change.entry).reply }
         ensures cost { (spec.state_of self.new).cost ≡ cost_with change.entry.act (spec.state_of self.old) }
     {
-        let (entry, delta, reply) = change.into_parts();
+        let (entry, delta, reply, dialplan) = change.into_parts();
         self.touches.note(&self.core, &delta);
         let blank = self.core.apply(delta, entry.act.cost());
         self.blank = Some(blank);
         self.journal.add(entry);
+        put_in(&mut self.dialplan, dialplan);
         reply
     }
 
-    /// Enters an entry: prepares it, and does it.
+    /// Enters an entry that notes no load: prepares it, and does it.
     pub fn step(&mut self, entry: &Entry) -> Result<Reply, Refusal>
+        requires { is_load entry.now.act ≡ false }
         ensures refused { IfErr result (λ r. spec.IsSame self.old self.new) }
         ensures cause { IfErr result (IsRefusedFor (spec.state_of self.old) entry.entry.now) }
         ensures config { self.new.config ≡ self.old.config }
@@ -238,6 +248,15 @@ impl Machine {
     }
 }
 
+// Puts a dialplan in the place of another one, if there is one.
+fn put_in(place: &mut Arc<Dialplan>, dialplan: Option<Arc<Dialplan>>)
+    ensures { arc_value place.new ≡ unwrap_or (option_map arc_value dialplan) (arc_value place.old) }
+{
+    if let Some(dialplan) = dialplan {
+        *place = dialplan;
+    }
+}
+
 // Prepares what an entry changes of a state by which it is not refused.
 #[tactic(auto, unfolding(crate::specs::Step::step))]
 fn prepare_entry(
@@ -246,10 +265,10 @@ fn prepare_entry(
     dialplan: &Dialplan,
     asked: &Entry,
 ) -> Result<Change, Memory>
+    requires other { is_load asked.now.act ≡ false }
     requires dialplan { dialplan.now ≡ core.now.switch.contexts }
     requires defined { refusal_of core.now.switch asked.now ≡ None }
-    ensures prepared { IfOk result (λ change. (change.entry ≡ asked.entry.now)
-        × spec.IsPrepared core.now.switch asked.entry.now change.delta change.reply) }
+    ensures { IfOk result (spec.Changes core.now.switch asked.entry.now) }
 {
     let mut draft = Draft::new(core, blank);
     draft.advance(asked.moment);
@@ -260,6 +279,7 @@ fn prepare_entry(
         entry,
         delta,
         reply,
+        dialplan: None,
     })
 }
 
@@ -270,14 +290,34 @@ pub(crate) fn judge(core: &Core, asked: &Entry) -> Result<(), Refusal>
     ensures free { OnOk result (HasRoomWithin core.now.switch.settings.journal_limit core.now.switch) }
     ensures defined { OnOk result (refusal_of core.now.switch asked.now ≡ None) }
 {
-    if core.is_full() {
-        let limit = core.settings().journal_limit;
-        let cost = core.cost();
-        return Err(Refusal::JournalFull { cost, limit });
+    if is_full_for(core, &asked.act) {
+        return Err(full_journal(core));
     }
     match refused_act(&Seen::of(core, asked.moment), &asked.act) {
         Some(refusal) => Err(refusal),
         None => Ok(()),
+    }
+}
+
+/// That the journal is full.
+pub(crate) fn full_journal(core: &Core) -> Refusal
+    ensures { result ≡ full_refusal core.now.switch }
+{
+    Refusal::JournalFull {
+        cost: core.cost(),
+        limit: core.settings().journal_limit,
+    }
+}
+
+// Whether the journal has no room for the largest entry that there may be instead of one of this act.
+fn is_full_for(core: &Core, act: &Act) -> bool
+    ensures exact { result ≡ full_for act.now core.now.switch }
+    ensures free { result ≡ false → HasRoomWithin core.now.switch.settings.journal_limit core.now.switch }
+{
+    if act.is_load() {
+        core.is_full_for_load()
+    } else {
+        core.is_full()
     }
 }
 
@@ -287,8 +327,9 @@ fn enter(
     dialplan: &Dialplan,
     asked: &Entry,
 ) -> Result<(Entry, Reply), Memory>
+    requires other { is_load asked.now.act ≡ false }
     requires outbox { draft.old.delta.outbox ≡ Unchanged }
-    requires dialplan { dialplan.now ≡ draft.old.base.contexts }
+    requires dialplan { dialplan.now ≡ (drafted draft.old).contexts }
     ensures base { draft.new.base ≡ draft.old.base }
     ensures entry { IfOk result (λ done. done.0 ≡ asked.entry.now) }
     ensures ok { IfOk result

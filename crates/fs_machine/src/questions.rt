@@ -1,6 +1,7 @@
 //! What is asked of a machine, and of a draft.
 
-ghost use Rattle.std.specs.Prelude.{◌≡◌, ◌<◌, ℕ, length, is_some};
+ghost use Rattle.std.specs.Arc.{arc_value};
+ghost use Rattle.std.specs.Prelude.{◌≡◌, ◌<◌, ℕ, length, is_some, IfOk};
 ghost use Rattle.fs_state.specs.Drafts.{drafted};
 ghost use Rattle.fs_state.specs.Switch.{chan_at, waiting_for, at_moment};
 ghost use Rattle.fs_machine.specs.declared.due.DueActor.TheVariants as actor;
@@ -11,15 +12,34 @@ ghost use Rattle.fs_machine.specs.Due as due;
 ghost use Rattle.fs_machine.specs.Events.{happened, events_of, CountsAll, CountsEvents, CountsHangups};
 ghost use Rattle.fs_machine.specs.Questions as spec;
 ghost use Rattle.fs_machine.specs.Runs.{state_of};
-ghost use Rattle.fs_machine.specs.Step.{reads, refused_as_full};
+ghost use Rattle.fs_machine.specs.Loading as loading;
+ghost use Rattle.fs_machine.specs.Step.{reads, refused_as_full, refused_as_full_for_load};
 
 use crate::connections::phase_of;
-use crate::due::{DueActor, due_among_all, due_among_jobs, due_in_slot};
-use crate::machine::Machine;
+use crate::due::{DueActor, due_among_all, due_among_jobs, due_in_slot, waits_for_load};
+use crate::machine::{Machine, full_journal};
 use crate::refusal::Refusal;
 use crate::refused::reads;
 use fs_state::{Core, Counts, Draft, Parting, Phase, Seen};
-use fs_text::Txt;
+use fs_doc::Config;
+use fs_plan::Dialplan;
+use fs_text::{Memory, Txt};
+use std::sync::Arc;
+
+/// A configuration whose contexts are in force, and the dialplan that was built of them.
+pub struct InForce {
+    pub config: Arc<Config>,
+    pub dialplan: Arc<Dialplan>,
+}
+
+impl Drop for InForce {
+    fn drop(self) {
+        let InForce {
+            config: _config,
+            dialplan: _dialplan,
+        } = self;
+    }
+}
 
 impl Machine {
     /// The least slot, or else the least job, that has something to do by itself at a moment, or the next moment at
@@ -110,13 +130,39 @@ impl Machine {
     pub fn full(&self) -> Option<Refusal>
         ensures { result ≡ refused_as_full (state_of self.now) }
     {
-        let core = &self.core;
-        if !core.is_full() {
+        if !self.core.is_full() {
             return None;
         }
-        let limit = core.settings().journal_limit;
-        let cost = core.cost();
-        Some(Refusal::JournalFull { cost, limit })
+        Some(full_journal(&self.core))
+    }
+
+    /// Why a load is refused, where the journal has no room for one.
+    pub fn full_for_load(&self) -> Option<Refusal>
+        ensures { result ≡ refused_as_full_for_load (state_of self.now) }
+    {
+        if !self.core.is_full_for_load() {
+            return None;
+        }
+        Some(full_journal(&self.core))
+    }
+
+    /// Whether the job of a number is there, and waits for a load.
+    pub fn waits_for_load(&self, job: u64) -> bool
+        ensures { result ≡ loading.waits_for_load job (state_of self.now) }
+    {
+        waits_for_load(&Seen::of(&self.core, self.core.moment()), job)
+    }
+
+    /// What is in force. Whoever has it while another dialplan comes into force drops it then, and the switch does not.
+    pub fn in_force(&self) -> Result<InForce, Memory>
+        ensures { IfOk result (λ found.
+            ((arc_value found.config).contexts ≡ (state_of self.now).contexts)
+            × (arc_value found.dialplan ≡ (state_of self.now).contexts)) }
+    {
+        Ok(InForce {
+            config: self.core.in_force().clone()?,
+            dialplan: self.dialplan.clone()?,
+        })
     }
 
     /// Whether the switch comes to its end.

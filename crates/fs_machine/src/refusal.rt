@@ -8,7 +8,7 @@ use std::alloc::AllocError;
 /// Why an entry is refused. It changes nothing then.
 #[derive(Clone, Copy, Debug, PartialEq, Eq)]
 pub enum Refusal {
-    /// The journal's cost so far leaves no room for the largest entry.
+    /// The journal's cost so far leaves no room for the largest entry, of 65,600, or for a load of 1,048,641.
     JournalFull { cost: u64, limit: u64 },
     /// The connection reads no commands, or is not there; or the switch has come to its end.
     Gone,
@@ -46,8 +46,13 @@ impl From<AllocError> for Refusal {
 /// Why a route that was planned beside the switch is refused. It changes nothing then.
 #[derive(Clone, Copy, Debug, PartialEq, Eq)]
 pub enum RouteRefusal {
-    /// What the route rests on is not what was seen: so many entries have changed it so far. A new plan is to be made.
-    Again { touched: u64 },
+    /// What the route rests on is not what was seen: so many entries have changed it so far, other contexts came into
+    /// force so many times, and it is this minute. A new plan is to be made.
+    Again {
+        touched: u64,
+        reloads: u64,
+        wall: i64,
+    },
     /// The entry is refused.
     Step(Refusal),
 }

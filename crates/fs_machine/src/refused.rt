@@ -7,7 +7,7 @@ ghost use Rattle.fs_machine.specs.Questions as questions;
 ghost use Rattle.fs_machine.specs.Step as spec;
 
 use crate::connections::phase_of;
-use crate::due::{dials, job_due, slot_due};
+use crate::due::{dials, job_due, slot_due, waits_for_load};
 use crate::entry::{Act, Closing};
 use crate::refusal::Refusal;
 use fs_chan::Due;
@@ -24,7 +24,8 @@ pub(crate) fn refused_act(seen: &Seen<'_>, act: &Act) -> Option<Refusal>
         Act::Close { conn, how } => refused_close(seen, *conn, *how),
         Act::Dialed { slot, .. } => refused_dial(seen, *slot),
         Act::Work { slot } => not_due(slot_due(seen, *slot)),
-        Act::Job { job } => not_due(job_due(seen, *job)),
+        Act::Job { job } => refused_job(seen, *job),
+        Act::Loaded { job, .. } => refused_load(seen, *job),
         Act::Halt => refused_halt(seen),
     }
 }
@@ -90,6 +91,25 @@ fn refused_dial(seen: &Seen<'_>, slot: u16) -> Option<Refusal>
     ensures { result ≡ spec.refused_dial slot seen.now }
 {
     if dials(seen, slot) {
+        return None;
+    }
+    Some(Refusal::NotDue { next: None })
+}
+
+fn refused_job(seen: &Seen<'_>, job: u64) -> Option<Refusal>
+    ensures { result ≡ spec.refused_job job seen.now }
+{
+    if waits_for_load(seen, job) {
+        return Some(Refusal::NotDue { next: None });
+    }
+    not_due(job_due(seen, job))
+}
+
+/// Why no load can be noted for the job of a number, if none can, where the journal has room for one.
+pub(crate) fn refused_load(seen: &Seen<'_>, job: u64) -> Option<Refusal>
+    ensures { result ≡ spec.refused_load job seen.now }
+{
+    if waits_for_load(seen, job) {
         return None;
     }
     Some(Refusal::NotDue { next: None })

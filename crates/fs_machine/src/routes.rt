@@ -17,6 +17,10 @@ pub struct Snapshot {
     pub uuid: Txt,
     /// How many entries had changed what its route rests on.
     pub touched: u64,
+    /// How often other contexts had come into force.
+    pub reloads: u64,
+    /// The minute: how many had passed since moment 0.
+    pub wall: i64,
     /// The variables of the channel.
     pub vars: SharedVars,
     pub profile: SharedProfile,
@@ -31,6 +35,8 @@ impl Drop for Snapshot {
         let Snapshot {
             uuid: _uuid,
             touched: _touched,
+            reloads: _reloads,
+            wall: _wall,
             vars: _vars,
             profile: _profile,
             globals: _globals,
@@ -72,7 +78,7 @@ impl Snapshot {
             globals: &self.globals,
         };
         self.dialplan
-            .hunt(alloc, &scope, profile.context.as_bytes(), gate)
+            .hunt(alloc, &scope, profile.context.as_bytes(), self.wall, gate)
     }
 }
 

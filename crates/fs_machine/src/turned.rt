@@ -16,7 +16,7 @@ use fs_doc::Config;
 
 impl Turned for Machine {
     ghost use Rattle.fs_book.specs.Numbered.{by_history_once};
-    ghost use Rattle.fs_machine.specs.Turned.{Takes, Declines, Fits, opens, names, comes_after};
+    ghost use Rattle.fs_machine.specs.Turned.{Takes, Declines, Fits, fits_behind, opens, names, comes_after};
     ghost use Rattle.fs_machine.specs.Routes.{entry_of};
 
     type Start = Config;
@@ -35,7 +35,7 @@ impl Turned for Machine {
 
     ghost logged = { entry_of };
 
-    ghost fits = { λ config _ submitted. Fits config submitted };
+    ghost fits = { Fits };
 
     ghost answers = { Takes };
 
@@ -47,7 +47,7 @@ impl Turned for Machine {
 
     ghost opens_once = { by_history_once comes_after };
 
-    ghost fits_longer = { λ _ _ _ _ _ fit. fit };
+    ghost fits_longer = { fits_behind };
 
     fn turn(&mut self, submitted: Offer) -> Result<Answer, RouteRefusal> {
         self.sound();
@@ -60,6 +60,10 @@ impl Turned for Machine {
             Offer::Route { moment, slot, plan } => match self.apply_route(moment, slot, plan) {
                 Ok(reply) => Ok(self.answer(&Act::Work { slot }, reply, events)),
                 Err(refusal) => Err(refusal),
+            },
+            Offer::Load { moment, job, load } => match self.apply_load(moment, job, load) {
+                Ok(reply) => Ok(self.answer(&Act::Job { job }, reply, events)),
+                Err(refusal) => Err(RouteRefusal::Step(refusal)),
             },
         }
     }

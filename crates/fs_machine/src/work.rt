@@ -1,6 +1,6 @@
 //! What a channel does by itself, state by state.
 
-ghost use Rattle.std.specs.Prelude.{◌≡◌, true, Some, IfSome, IfOk, OnOk};
+ghost use Rattle.std.specs.Prelude.{◌≡◌, ◌/◌, pos, true, Some, IfSome, IfOk, OnOk};
 ghost use Rattle.fs_chan.specs.Changes as changes;
 ghost use Rattle.fs_chan.specs.Changes.{may_route};
 ghost use Rattle.fs_chan.specs.declared.wait.Wait.TheVariants.{Legs};
@@ -21,10 +21,13 @@ use fs_state::Draft;
 use fs_text::{Cause, Memory, State};
 use fs_vars::{Refused, Scope, Vars};
 
+/// A minute, in microseconds.
+const MINUTE: u64 = 60_000_000;
+
 /// Does what the channel in a slot has to do by itself.
 #[tactic(auto, unfolding(crate::specs::Work::after_work))]
 pub(crate) fn work(draft: &mut Draft<'_>, dialplan: &Dialplan, slot: u16) -> Result<(), Memory>
-    requires dialplan { dialplan.now ≡ draft.old.base.contexts }
+    requires dialplan { dialplan.now ≡ (drafted draft.old).contexts }
     ensures { Brings result draft.old draft.new (spec.after_work slot (drafted draft.old)) }
 {
     let Some(chan) = draft.chan(slot) else {
@@ -74,7 +77,7 @@ fn first_state(direction: Direction) -> State
 
 // Routes a channel, unless it was routed too often.
 fn route(draft: &mut Draft<'_>, dialplan: &Dialplan, slot: u16) -> Result<(), Memory>
-    requires dialplan { dialplan.now ≡ draft.old.base.contexts }
+    requires dialplan { dialplan.now ≡ (drafted draft.old).contexts }
     ensures { Brings result draft.old draft.new (spec.after_routing slot (drafted draft.old)) }
 {
     let Some(chan) = draft.chan(slot) else {
@@ -133,7 +136,7 @@ fn has_xml(chan: &Chan) -> bool
 
 // What the dialplan gives a channel, unless a text is too long.
 fn hunt_for(draft: &Draft<'_>, dialplan: &Dialplan, chan: &Chan) -> Result<Option<Hunt>, Memory>
-    requires dialplan { dialplan.now ≡ draft.now.base.contexts }
+    requires dialplan { dialplan.now ≡ (drafted draft.now).contexts }
     ensures { IfOk result (λ found. found ≡ spec.found_for chan.now (drafted draft.now)) }
 {
     let vars = &*chan.vars;
@@ -144,11 +147,19 @@ fn hunt_for(draft: &Draft<'_>, dialplan: &Dialplan, chan: &Chan) -> Result<Optio
         globals: draft.globals(),
     };
     let context = profile.context.as_bytes();
-    match dialplan.hunt(draft.alloc(), &scope, context, &mut NoGate) {
+    let wall = wall_of(draft.moment());
+    match dialplan.hunt(draft.alloc(), &scope, context, wall, &mut NoGate) {
         Ok(hunt) => Ok(Some(hunt)),
         Err(Refused::TooLong { .. }) => Ok(None),
         Err(Refused::Memory) => Err(Memory),
     }
+}
+
+/// The minute of a moment, in microseconds.
+pub(crate) fn wall_of(moment: u64) -> i64
+    ensures { result ≡ pos (moment / 60000000) }
+{
+    (moment / MINUTE) as i64
 }
 
 // Takes over what the hunt gave: the actions are to be run; without any, or in another dialplan, there is no route.

@@ -41,7 +41,7 @@ fn main(rt: HostRuntime) -> ExitCode {
 }
 
 // Serves at a door of the system, and gives the status.
-fn serve_words<R, F: Files, E: Sink>(
+fn serve_words<R, F: Files + Send, E: Sink>(
     rt: &R,
     alloc: Global,
     words: &[Txt],

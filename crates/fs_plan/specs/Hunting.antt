@@ -1,6 +1,6 @@
 -- What a hunt through a dialplan gives.
 use Rattle.std.specs.Prelude.{◌==◌, ℕ, ◌+◌, Bool, true, false, not, ◌&&◌, ◌||◌, nat_le, if◌then◌else◌, List, [], ◌∷◌, ◌++◌, length, Option}
-use Rattle.std.specs.Prelude.{None, Ok, Err, unwrap_or}
+use Rattle.std.specs.Prelude.{None, Ok, Err, unwrap_or, ℤ}
 use Rattle.fs_text.specs.Texts.{Text}
 use Rattle.fs_vars.specs.Pairs.{Pairs, same_text, value_of}
 use Rattle.fs_vars.specs.Variables.{Variables}
@@ -188,10 +188,10 @@ extensions_of (context ∷ more) name = if same_text name context.name then cont
 abbrev pub new_hunt : Variables → Variables → Hunt
 new_hunt vars globals = record { actions = []; vars = vars; globals = globals }
 
--- a hunt with these variables, this profile and these globals through the context of a name
-unfoldable pub hunted : List Context → Text → Profile → Variables → Variables → Outcome Hunt
-hunted contexts name profile vars globals = extensions_done profile (extensions_of contexts name) (new_hunt vars globals)
+-- a hunt with these variables, this profile and these globals through the context of a name, in a minute that no condition reads yet
+unfoldable pub hunted : List Context → Text → Profile → Variables → Variables → ℤ → Outcome Hunt
+hunted contexts name profile vars globals wall = extensions_done profile (extensions_of contexts name) (new_hunt vars globals)
 
 -- the same with the variables, the profile and the globals of a scope
-abbrev pub hunted_in : List Context → Text → Scope → Outcome Hunt
-hunted_in contexts name scope = hunted contexts name scope.profile.now scope.vars.now scope.globals.now
+abbrev pub hunted_in : List Context → Text → Scope → ℤ → Outcome Hunt
+hunted_in contexts name scope wall = hunted contexts name scope.profile.now scope.vars.now scope.globals.now wall

@@ -46,7 +46,7 @@ fn children<P: Patterns>(
     ensures refused { IfErr result (spec.IsUnbuilt (spec.expressions_of list.now)) }
     ensures sizes { spec.CountsUnbuilt result (P.sizes patterns.old) (P.sizes patterns.new) }
     ensures files { (P.counts patterns.new ≡ P.counts patterns.old)
-        × (P.next_load patterns.new ≡ P.next_load patterns.old) }
+        × (P.loads patterns.new ≡ P.loads patterns.old) }
 {
     let mut built = Listed::new(alloc);
     for child in list {
@@ -69,7 +69,7 @@ fn test<P: Patterns>(
     ensures refused { IfErr result (spec.IsUnbuilt (spec.patterns_of given.now)) }
     ensures sizes { spec.CountsUnbuilt result (P.sizes patterns.old) (P.sizes patterns.new) }
     ensures files { (P.counts patterns.new ≡ P.counts patterns.old)
-        × (P.next_load patterns.new ≡ P.next_load patterns.old) }
+        × (P.loads patterns.new ≡ P.loads patterns.old) }
 {
     match given {
         Test::Always => Ok(Test::Always),
@@ -103,7 +103,7 @@ fn condition<P: Patterns>(
     ensures refused { IfErr result (spec.IsUnbuilt (spec.patterns_of given.now.test)) }
     ensures sizes { spec.CountsUnbuilt result (P.sizes patterns.old) (P.sizes patterns.new) }
     ensures files { (P.counts patterns.new ≡ P.counts patterns.old)
-        × (P.next_load patterns.new ≡ P.next_load patterns.old) }
+        × (P.loads patterns.new ≡ P.loads patterns.old) }
 {
     let test = test(alloc, &given.test, patterns)?;
     let actions = copies(alloc, given.actions.as_slice())?;
@@ -129,7 +129,7 @@ fn conditions<P: Patterns>(
     ensures refused { IfErr result (spec.IsRefusalOf (spec.patterns_within extension list.now)) }
     ensures sizes { spec.CountsSizes result (P.sizes patterns.old) (P.sizes patterns.new) }
     ensures files { (P.counts patterns.new ≡ P.counts patterns.old)
-        × (P.next_load patterns.new ≡ P.next_load patterns.old) }
+        × (P.loads patterns.new ≡ P.loads patterns.old) }
 {
     let mut built = Listed::new(alloc);
     for (position, given) in list.iter().enumerate() {
@@ -154,7 +154,7 @@ fn extensions<P: Patterns>(
     ensures refused { IfErr result (spec.IsRefusalOf (spec.patterns_from before list.now)) }
     ensures sizes { spec.CountsSizes result (P.sizes patterns.old) (P.sizes patterns.new) }
     ensures files { (P.counts patterns.new ≡ P.counts patterns.old)
-        × (P.next_load patterns.new ≡ P.next_load patterns.old) }
+        × (P.loads patterns.new ≡ P.loads patterns.old) }
 {
     let mut built = Listed::new(alloc);
     for (position, given) in list.iter().enumerate() {
@@ -181,7 +181,7 @@ pub(crate) fn contexts<P: Patterns>(
     ensures refused { IfErr result (spec.IsPlanRefusal list.now) }
     ensures sizes { spec.CountsSizes result (P.sizes patterns.old) (P.sizes patterns.new) }
     ensures files { (P.counts patterns.new ≡ P.counts patterns.old)
-        × (P.next_load patterns.new ≡ P.next_load patterns.old) }
+        × (P.loads patterns.new ≡ P.loads patterns.old) }
 {
     let mut built = Listed::new(alloc);
     let mut before: usize = 0;

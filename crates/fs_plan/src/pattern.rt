@@ -58,7 +58,7 @@ impl Pattern {
         ensures refused { IfErr result (IsTextUnbuilt text.now) }
         ensures sizes { CountsUnbuilt result (P.sizes patterns.old) (P.sizes patterns.new) }
         ensures files { (P.counts patterns.new ≡ P.counts patterns.old)
-            × (P.next_load patterns.new ≡ P.next_load patterns.old) }
+            × (P.loads patterns.new ≡ P.loads patterns.old) }
     {
         let Ok(source) = str::from_utf8(text.as_bytes()) else {
             return Err(Unbuilt::NoReading);

@@ -45,7 +45,7 @@ impl Dialplan {
         ensures refused { IfErr result (build.IsPlanRefusal config.now.contexts) }
         ensures sizes { build.CountsSizes result (P.sizes patterns.old) (P.sizes patterns.new) }
         ensures files { (P.counts patterns.new ≡ P.counts patterns.old)
-            × (P.next_load patterns.new ≡ P.next_load patterns.old) }
+            × (P.loads patterns.new ≡ P.loads patterns.old) }
     {
         let contexts = contexts(alloc, config.contexts(), patterns)?;
         Ok(Dialplan { contexts })
@@ -57,16 +57,20 @@ impl Dialplan {
     /// The gate is passed before each condition that is evaluated, and changes nothing of this. The hunt is refused
     /// where a field, or the data of an inline action, would be expanded to more than 65,536 bytes, with the length of
     /// the first such text.
+    ///
+    /// The wall is the minute of the hunt: the moment of the switch divided by 60,000,000, rounded down. No condition
+    /// reads it yet.
     #[tactic(auto, unfolding(crate::specs::Hunting::hunted))]
     pub fn hunt<G: Gate>(
         &self,
         alloc: Global,
         scope: &Scope,
         context: &[u8],
+        wall: i64,
         gate: &mut G,
     ) -> Result<Hunt, Refused>
-        ensures found { IfOk result (λ hunt. spec.hunted_in self.now context.now scope.now ≡ Ok hunt) }
-        ensures too_long { IfErr result (IsFault (spec.hunted_in self.now context.now scope.now)) }
+        ensures found { IfOk result (λ hunt. spec.hunted_in self.now context.now scope.now wall ≡ Ok hunt) }
+        ensures too_long { IfErr result (IsFault (spec.hunted_in self.now context.now scope.now wall)) }
     {
         let mut hunt = Hunt {
             actions: Actions::new(alloc),

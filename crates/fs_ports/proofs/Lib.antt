@@ -3,3 +3,4 @@ mod Firsts
 mod Fronts
 mod Tapes
 mod Readings
+mod Turns

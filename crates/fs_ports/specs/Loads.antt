@@ -1,5 +1,5 @@
 -- What is told of files, and what a load does.
-use Rattle.std.specs.Prelude.{◌≡◌, ℕ, ◌≤◌, length, Option, None, Some}
+use Rattle.std.specs.Prelude.{◌≡◌, ℕ, ◌+◌, ◌≤◌, List, length, Option, None, Some}
 use Rattle.fs_ports.specs.Counts.{raised}
 use Rattle.fs_ports.specs.declared.files.Load.{Load}
 use Rattle.fs_ports.specs.declared.files.Load.TheVariants.{Got, Absent, Failed}
@@ -8,6 +8,14 @@ use Rattle.fs_ports.specs.declared.files.Load.TheVariants.{Got, Absent, Failed}
 pub record LoadCounts : Type 0 where
   pub faults : ℕ
   pub absences : ℕ
+
+-- the answer of the next load of a name, out of those of all its loads to come
+abbrev pub next : (List ℕ → ℕ → Option Load) → List ℕ → Option Load
+next loads name = loads name 0
+
+-- one load of a name is over, and of those behind it is told what was told before
+abbrev pub MovesOn : (List ℕ → ℕ → Option Load) → (List ℕ → ℕ → Option Load) → List ℕ → Type 0
+MovesOn old new name = (behind : ℕ) → new name behind ≡ old name (behind + 1)
 
 -- the answer is the one that is told, where one is
 abbrev pub Tells : Option Load → Load → Type 0

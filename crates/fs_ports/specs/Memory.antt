@@ -1,7 +1,9 @@
 -- What a link and files in memory tell.
-use Rattle.std.specs.Prelude.{ℕ, ◌==◌, ◌<◌, ◌≤◌, Bool, false, not, List, [], take, Option, None, Some, if◌then◌else◌}
+use Rattle.std.specs.Prelude.{ℕ, ◌==◌, ◌+◌, ◌-◌, ◌<◌, ◌≤◌, min, nat_lt, Bool, false, not, if◌then◌else◌}
+use Rattle.std.specs.Prelude.{List, [], length, take, filter, slice_get, Option, None, Some}
 use Rattle.std.specs.Str.{bytes_eq}
-use Rattle.std.specs.List.{list_any, find}
+use Rattle.std.specs.List.{list_any}
+use Rattle.std.specs.Set.{remove_key}
 use Rattle.std.specs.Option.{option_map}
 use Rattle.fs_ports.specs.Counts.{raised}
 use Rattle.fs_ports.specs.Ports.{Input, Output, IsNewLink}
@@ -58,8 +60,8 @@ pub record Queue : Type 0 where
 abbrev pub new_queue : List Tape → Queue
 new_queue links = record { links = links; faults = 0 }
 
--- files in memory: their names and bytes, the numbers of the loads that fail and the loads so far, and the same of builds that find a
--- pattern too large
+-- files in memory: the names and bytes of the loads to come, the numbers of the loads that fail and the loads so far, and the same of
+-- builds that find a pattern too large
 pub record Shelf : Type 0 where
   pub held : List (List ℕ × List ℕ)
   pub failed : List ℕ
@@ -81,16 +83,30 @@ new_shelf held failed too_large = record {
   sizes = 0;
 }
 
--- the bytes of the first file of this name
-abbrev pub file_bytes : List (List ℕ × List ℕ) → List ℕ → Option (List ℕ)
-file_bytes files name = option_map (λ file. file.1) (find (λ file. bytes_eq file.0 name) files)
+-- whether a file has this name
+abbrev pub is_named : List ℕ → List ℕ × List ℕ → Bool
+is_named name file = bytes_eq file.0 name
+
+-- the bytes that the load of a name behind so many others of it finds: the files of the name are its loads in order, the last one again
+-- and again
+abbrev pub file_bytes : List (List ℕ × List ℕ) → List ℕ → ℕ → Option (List ℕ)
+file_bytes files name behind =
+    let same = filter (is_named name) files in option_map (λ file. file.1) (slice_get same (min behind (length same - 1)))
+
+-- the files once a load of a name is over: the first one of the name is gone, unless it is the last one
+abbrev pub moved_on : List (List ℕ × List ℕ) → List ℕ → List (List ℕ × List ℕ)
+moved_on files name = if nat_lt 1 (length (filter (is_named name) files)) then remove_key (is_named name) files else files
+
+-- the same once a load of a name is over
+abbrev pub loaded : Shelf → List ℕ → Shelf
+loaded shelf name = record shelf { held = moved_on shelf.held name; loads = raised shelf.loads }
 
 -- the answer of a load that does not fail: at most 1,048,577 bytes are given
 abbrev pub load_of : Option (List ℕ) → Load
 load_of None = Absent
 load_of (Some bytes) = Got (take 1048577 bytes)
 
--- the answer of the next load
-abbrev pub next_load_of : Shelf → List ℕ → Load
-next_load_of shelf name =
-    if list_any (λ n. n == raised shelf.loads) shelf.failed then Failed else load_of (file_bytes shelf.held name)
+-- the answer of the load of a name behind so many others of it
+abbrev pub load_behind : Shelf → List ℕ → ℕ → Load
+load_behind shelf name behind =
+    if list_any (λ n. n == raised (shelf.loads + behind)) shelf.failed then Failed else load_of (file_bytes shelf.held name behind)

@@ -61,7 +61,7 @@ impl<R: rt::Files + Drop> Store for DiskFiles<R> {
 
     ghost counts = { λ f. record { faults = f.faults; absences = f.absences } };
 
-    ghost next_load = { λ _ _. None };
+    ghost loads = { λ _ _ _. None };
 
     ghost sizes = { λ f. f.sizes };
 }

@@ -1,7 +1,7 @@
 //! Files by name.
 
 ghost use Rattle.std.specs.Prelude.{◌≡◌, IfOk, MatchResult};
-ghost use Rattle.fs_ports.specs.Loads.{Tells, Counted};
+ghost use Rattle.fs_ports.specs.Loads.{Tells, MovesOn, Counted};
 
 use crate::patterns::Patterns;
 use fs_text::{Memory, Txt};
@@ -24,7 +24,9 @@ pub enum Load {
 pub trait Files: Patterns {
     /// Reads the file of this name.
     fn load(&mut self, name: &Txt) -> Result<Load, Memory>
-        ensures told { IfOk result (Tells (Self.next_load self.old name.now)) }
+        ensures told { IfOk result (Tells (Self.loads self.old name.now 0)) }
+        ensures rest { MatchResult result (λ _. MovesOn (Self.loads self.old) (Self.loads self.new) name.now)
+            (λ _. Self.loads self.new ≡ Self.loads self.old) }
         ensures counts { MatchResult result (Counted (Self.counts self.old) (Self.counts self.new))
             (λ _. Self.counts self.new ≡ Self.counts self.old) }
         ensures sizes { Self.sizes self.new ≡ Self.sizes self.old };

@@ -1,7 +1,9 @@
 //! Files in memory.
 
-ghost use Rattle.std.specs.Prelude.{◌≡◌, take, IfOk};
-ghost use Rattle.std.specs.Option.{option_copied};
+ghost use Rattle.std.specs.Prelude.{◌≡◌, length, take, filter, position, IfOk};
+ghost use Rattle.std.specs.List.{find};
+ghost use Rattle.std.specs.Set.{remove_key};
+ghost use Rattle.std.specs.Option.{option_copied, option_map};
 ghost use Rattle.fs_ports.specs.Memory as spec;
 
 use crate::counts::raised;
@@ -11,8 +13,12 @@ use fs_text::{Memory, Txt};
 use std::alloc::Global;
 use std::marker::Model;
 
-/// Files in memory. Loads that are to fail, and builds that are to find a pattern too large, are named by their
-/// numbers, counted from 1.
+/// Files in memory. Several pairs of one name are its loads in order, the last one again and again. Loads that are to
+/// fail, and builds that are to find a pattern too large, are named by their numbers, counted from 1.
+///
+/// The answer of a load rests on how many loads there were so far in all, and on how many there were of its name. Each
+/// that was answered counts for both, one that failed too: it took the place of that load of the name. One for which
+/// memory was wanting changes nothing.
 pub struct MemFiles {
     alloc: Global,
     held: Vec<(Txt, Txt)>,
@@ -58,7 +64,7 @@ impl Model for MemFiles {
 }
 
 impl MemFiles {
-    /// Files of these names and bytes; of a name that stands twice the first counts.
+    /// Files of these names and bytes, before any load.
     pub fn new(
         alloc: Global,
         held: &[(Txt, Txt)],
@@ -79,15 +85,25 @@ impl MemFiles {
             sizes: 0,
         })
     }
+
+    // A load of this name is over.
+    fn move_on(&mut self, name: &Txt)
+        ensures { self.new ≡ spec.loaded self.old name.now }
+    {
+        self.loads = raised(self.loads);
+        if count_of(&self.held, name.as_bytes()) > 1 {
+            take_first(&mut self.held, name.as_bytes());
+        }
+    }
 }
 
 impl Store for MemFiles {
     ghost use Rattle.std.specs.Prelude.{Some};
-    ghost use Rattle.fs_ports.specs.Memory.{next_load_of};
+    ghost use Rattle.fs_ports.specs.Memory.{load_behind};
 
     ghost counts = { λ f. f.counts };
 
-    ghost next_load = { λ f name. Some (next_load_of f name) };
+    ghost loads = { λ f name behind. Some (load_behind f name behind) };
 
     ghost sizes = { λ f. f.sizes };
 }
@@ -106,19 +122,18 @@ impl Patterns for MemFiles {
 
 impl Files for MemFiles {
     fn load(&mut self, name: &Txt) -> Result<Load, Memory> {
-        let number = raised(self.loads);
-        if self.failed.contains(&number) {
-            self.loads = number;
+        if self.failed.contains(&raised(self.loads)) {
+            self.move_on(name);
             self.faults = raised(self.faults);
             return Ok(Load::Failed);
         }
         let Some(bytes) = file_bytes(&self.held, name.as_bytes()) else {
-            self.loads = number;
+            self.move_on(name);
             self.absences = raised(self.absences);
             return Ok(Load::Absent);
         };
         let front = front_of(self.alloc, bytes)?;
-        self.loads = number;
+        self.move_on(name);
         Ok(Load::Got(front))
     }
 }
@@ -134,14 +149,47 @@ fn copies(alloc: Global, files: &[(Txt, Txt)]) -> Result<Vec<(Txt, Txt)>, Memory
     Ok(copied)
 }
 
-// The bytes of the first file of this name.
+// The bytes that the next load of this name finds.
 fn file_bytes<'a>(files: &'a [(Txt, Txt)], name: &[u8]) -> Option<&'a Txt>
-    ensures { option_copied result ≡ spec.file_bytes files.now name.now }
+    ensures { option_copied result ≡ spec.file_bytes files.now name.now 0 }
+{
+    first_bytes(files, name)
+}
+
+// The bytes of the first file of this name.
+fn first_bytes<'a>(files: &'a [(Txt, Txt)], name: &[u8]) -> Option<&'a Txt>
+    ensures { option_copied result ≡ option_map (λ file. file.1) (find (spec.is_named name.now) files.now) }
 {
     files
         .iter()
         .find(|file| file.0.as_bytes() == name)
         .map(|file| &file.1)
+}
+
+// How many files have this name.
+fn count_of(files: &[(Txt, Txt)], name: &[u8]) -> usize
+    ensures { result ≡ length (filter (spec.is_named name.now) files.now) }
+{
+    files
+        .iter()
+        .filter(|file| file.0.as_bytes() == name)
+        .count()
+}
+
+// Takes the first file of this name out.
+fn take_first(files: &mut Vec<(Txt, Txt)>, name: &[u8])
+    ensures { files.new.items ≡ remove_key (spec.is_named name.now) files.old.items }
+{
+    if let Some(position) = position_of(files, name) {
+        files.remove(position);
+    }
+}
+
+// The position of the first file of this name.
+fn position_of(files: &[(Txt, Txt)], name: &[u8]) -> Option<usize>
+    ensures { result ≡ position (spec.is_named name.now) files.now }
+{
+    files.iter().position(|file| file.0.as_bytes() == name)
 }
 
 // The part of a file that a load gives.

@@ -27,8 +27,9 @@ pub enum Built {
 pub trait Store {
     ghost counts: { Self → LoadCounts };
 
-    // The answer that the next load of a name gives, where it is known.
-    ghost next_load: { Self → List ℕ → Option Load };
+    // The answers that the loads of a name to come give, one after another, where they are known. That of the next load has the
+    // number 0.
+    ghost loads: { Self → List ℕ → ℕ → Option Load };
 
     // The patterns that were too large.
     ghost sizes: { Self → ℕ };
@@ -41,7 +42,7 @@ pub trait Patterns: Store {
         ensures answer { Says text.now result }
         ensures sizes { Counts (Self.sizes self.old) (Self.sizes self.new) result }
         ensures counts { Self.counts self.new ≡ Self.counts self.old }
-        ensures loads { Self.next_load self.new ≡ Self.next_load self.old };
+        ensures loads { Self.loads self.new ≡ Self.loads self.old };
 }
 
 /// The pattern of a text.

@@ -1,18 +1,19 @@
 -- The line of an entry is read as it is written, and what is read is written so.
-use Rattle.std.proofs.Common.{◌≡◌, inl, inr, ℕ, ◌<◌, ◌^◌, Bool, true, false, nat_eq, nat_le, List, [], ◌∷◌, ◌++◌, length, take, drop}
-use Rattle.std.proofs.Common.{None, Some, Ok, Err, cond, refl, sym, ap, ◌∙◌, arith, codes, append_assoc, take-append-drop}
+use Rattle.std.proofs.Common.{◌≡◌, inl, inr, ℕ, ◌<◌, ◌^◌, Bool, true, false, nat_eq, List, [], ◌∷◌, ◌++◌, length, drop}
+use Rattle.std.proofs.Common.{None, Some, Ok, Err, cond, refl, sym, ap, ◌∙◌, arith, codes, append_assoc}
 use Rattle.std.proofs.lemmas.Bool.Decides.{nat_tests}
-use Rattle.std.proofs.lemmas.List.{take_at, drop_at, length-append, length-take-le}
 use Rattle.fs_machine.specs.declared.entry.Entry.{Entry}
 use Rattle.fs_machine.specs.declared.entry.Act.{Act}
-use Rattle.fs_machine.specs.declared.entry.Act.TheVariants.{Arrive, Command, Take, Close, Dialed, Work, Job, Halt}
+use Rattle.fs_machine.specs.declared.entry.Act.TheVariants.{Arrive, Command, Take, Close, Dialed, Work, Job, Loaded, Halt}
 use Rattle.fs_machine.specs.declared.entry.Closing.{Closing}
 use Rattle.fs_machine.specs.declared.entry.Closing.TheVariants.{EndOfInput, Sent, Failed}
-use Rattle.fs_replay.specs.declared.fault.Fault.TheVariants.{Bad, Cut}
 use Rattle.fs_replay.specs.declared.acts.Head.{Head}
-use Rattle.fs_replay.specs.Texts.{field, letter_of, closing_text, linked_text, act_text, entry_text}
+use Rattle.fs_machine.specs.declared.note.LoadNote.{LoadNote}
+use Rattle.fs_replay.specs.Texts.{field, letter_of, closing_text, linked_text, note_words, note_block, act_text, entry_text}
 use Rattle.fs_replay.specs.Bounds.{IsFitAct, IsFit}
-use Rattle.fs_replay.specs.Reading.{Read, Reads, is_other, begins, word_at, and_then, ended_at, taken_at, work_at, job_at, closing_at, close_at, linked_at, dialed_at, plain_at, head_at, block_at, of_block, of_head, command_at, or_bad, act_at, of_act, of_moment, entry_at, field_at, conn_at, slot_at}
+use Rattle.fs_replay.specs.Reading.{Read, Reads, is_other, begins, word_at, and_then, ended_at, taken_at, work_at, job_at, closing_at, close_at, linked_at, dialed_at, plain_at, head_at, block_at, of_block, of_head, command_at, note_at, of_note, of_job, loaded_at, or_bad, act_at, of_act, of_moment, entry_at, field_at, conn_at, slot_at}
+use Rattle.fs_replay.proofs.Blocks.{block_sound, block_complete}
+use Rattle.fs_replay.proofs.LoadLines.{note_sound, note_complete, note_begins}
 use Rattle.fs_replay.proofs.Numbers.{one_read, one_of, follows, word_is, word_sound, field_complete, field_sound, conn_complete, conn_sound, slot_complete, slot_sound}
 
 -- what was read is what is written
@@ -194,45 +195,11 @@ unfolding head_at
 head_complete conn len rest conn_fits len_fits =
     rw (conn_complete conn 32 _ conn_fits refl, field_complete len 10 rest len_fits refl) refl
 
--- a block and LF behind it are what the bytes begin with
-record IsBlock (len : ℕ) (bytes block left : List ℕ) : Type 0 where
-  pub text : bytes ≡ block ++ (10 ∷ left)
-  pub size : length block ≡ len
-
-block_sound : (len : ℕ) (bytes block left : List ℕ) → block_at len bytes ≡ Ok (block, left) → IsBlock len bytes block left
-unfolding block_at
-block_sound len bytes block left read = first (nat_le (length bytes) len) refl read
-  where
-    second : (t : Bool) → begins (codes "\n") (drop len bytes) ≡ t → nat_le (length bytes) len ≡ false
-        → ◌≡◌ {A = Reads (List ℕ)} (cond t (Ok (take len bytes, drop 1 (drop len bytes))) (Err Bad)) (Ok (block, left)) → IsBlock len bytes block left
-    second true here long same =
-        let both : ◌≡◌ {A = List ℕ × List ℕ} (take len bytes, drop 1 (drop len bytes)) (block, left) = cc in
-        let front : take len bytes ≡ block = ap (λ (r : List ℕ × List ℕ). r.0) both in
-        let back : drop 1 (drop len bytes) ≡ left = ap (λ (r : List ℕ × List ℕ). r.1) both in
-        let more : len < length bytes = grind (arith, nat_tests) in
-        record {
-          text = sym (take-append-drop len bytes) ∙ ap (λ (l : List ℕ). take len bytes ++ l) (word_is (codes "\n") (drop len bytes) here)
-              ∙ ap (λ (l : List ℕ). take len bytes ++ (10 ∷ l)) back ∙ ap (λ (l : List ℕ). l ++ (10 ∷ left)) front;
-          size = ap length (sym front) ∙ length-take-le len bytes (omega arith);
-        }
-    second false none long same = absurd (cc)
-
-    first : (t : Bool) → nat_le (length bytes) len ≡ t
-        → ◌≡◌ {A = Reads (List ℕ)} (cond t (Err Cut) (cond (begins (codes "\n") (drop len bytes)) (Ok (take len bytes, drop 1 (drop len bytes))) (Err Bad))) (Ok (block, left))
-        → IsBlock len bytes block left
-    first true short same = absurd (cc)
-    first false long same = second (begins (codes "\n") (drop len bytes)) refl long same
-
-block_complete : (block rest : List ℕ) → block_at (length block) (block ++ (10 ∷ rest)) ≡ Ok (block, rest)
-unfolding block_at
-block_complete block rest =
-    let long : nat_le (length (block ++ (10 ∷ rest))) (length block) ≡ false = grind (arith, nat_tests, length-append block (10 ∷ rest)) in
-    let back = drop_at block (10 ∷ rest) (length block) refl in
-    let front = take_at block (10 ∷ rest) (length block) refl in
-    rw (long, back, front) refl
+command_pieces : (a b block left : List ℕ) → a ++ (b ++ (10 ∷ (block ++ (10 ∷ left)))) ≡ (a ++ (b ++ codes "\n" ++ block ++ codes "\n")) ++ left
+command_pieces a b block left = simp append_assoc
 
 command_text : (conn : ℕ) (block left : List ℕ) → field conn ++ (field (length block) ++ (10 ∷ (block ++ (10 ∷ left)))) ≡ act_text (Command conn block) ++ left
-command_text conn block left = simp append_assoc
+command_text conn block left = command_pieces (field conn) (field (length block)) block left
 
 command_sound : (letter : ℕ) (bytes left : List ℕ) (act : Act) → letter ≡ 67 → command_at bytes ≡ Ok (act, left) → IsActAt letter bytes act left
 unfolding command_at
@@ -256,6 +223,40 @@ command_sound letter bytes left act is read = first (head_at bytes) refl read
     first None none same = absurd (cc)
     first (Some r) before same = second r.0 r.1 (block_at r.0.len r.1) before refl same
 
+-- ---- loads
+
+loaded_pieces : (a words block left : List ℕ) → a ++ ((words ++ block) ++ left) ≡ (a ++ words ++ block) ++ left
+loaded_pieces a words block left = simp append_assoc
+
+loaded_sound : (letter : ℕ) (bytes left : List ℕ) (act : Act) → letter ≡ 76 → loaded_at bytes ≡ Ok (act, left) → IsActAt letter bytes act left
+unfolding loaded_at
+loaded_sound letter bytes left act is read = first (field_at bytes) refl read
+  where
+    second : (job : ℕ) (mid : List ℕ) (r : Reads LoadNote) → field_at bytes ≡ Some (job, mid) → note_at mid ≡ r → of_note job r ≡ Ok (act, left)
+        → IsActAt letter bytes act left
+    second job mid (Err fault) before here same = absurd (cc)
+    second job mid (Ok r) before here same =
+        let both : ◌≡◌ {A = Act × List ℕ} (Loaded job r.0, r.1) (act, left) = cc in
+        let given : Loaded job r.0 ≡ act = ap (λ (p : Act × List ℕ). p.0) both in
+        let rest : r.1 ≡ left = ap (λ (p : Act × List ℕ). p.1) both in
+        let number = field_sound job bytes mid before in
+        let note = note_sound mid r.1 r.0 here in
+        let text = number.0 ∙ ap (λ (l : List ℕ). field job ++ l) (note.text ∙ ap (λ (l : List ℕ). (note_words r.0 ++ note_block r.0) ++ l) rest)
+        ∙ loaded_pieces (field job) (note_words r.0) (note_block r.0) left in
+        rw (← given) (record { is = is; text = text; fit = (number.1, note.fit) })
+
+    first : (r : Read ℕ) → field_at bytes ≡ r → of_job r ≡ Ok (act, left) → IsActAt letter bytes act left
+    first None none same = absurd (cc)
+    first (Some r) before same = second r.0 r.1 (note_at r.1) before refl same
+
+job_complete : (job : ℕ) (note : LoadNote) (rest : List ℕ) → job < 2 ^ 64
+    → field_at (field job ++ ((note_words note ++ note_block note) ++ rest)) ≡ Some (job, (note_words note ++ note_block note) ++ rest)
+job_complete job note rest fits =
+    let b = note_begins note rest in
+    ap (λ (l : List ℕ). field_at (field job ++ l)) b.1 ∙ field_complete job 32 b.0 fits refl ∙ ap (λ (l : List ℕ). Some (job, l)) (sym b.1)
+
+-- ---- acts
+
 act_sound : (letter : ℕ) (bytes left : List ℕ) (act : Act) → act_at letter bytes ≡ Ok (act, left) → IsActAt letter bytes act left
 unfolding act_at
 act_sound letter bytes left act read = first (nat_eq letter 67) refl read
@@ -266,13 +267,19 @@ act_sound letter bytes left act read = first (nat_eq letter 67) refl read
         let both : r ≡ (act, left) = cc in
         plain_sound letter bytes left act (here ∙ ap (λ (p : Act × List ℕ). Some p) both)
 
-    first : (t : Bool) → nat_eq letter 67 ≡ t → ◌≡◌ {A = Reads Act} (cond t (command_at bytes) (or_bad (plain_at letter bytes))) (Ok (act, left)) → IsActAt letter bytes act left
+    second : (t : Bool) → nat_eq letter 76 ≡ t → ◌≡◌ {A = Reads Act} (cond t (loaded_at bytes) (or_bad (plain_at letter bytes))) (Ok (act, left)) → IsActAt letter bytes act left
+    second true is same = loaded_sound letter bytes left act (is_letter letter 76 is) same
+    second false other same = plain (plain_at letter bytes) refl same
+
+    first : (t : Bool) → nat_eq letter 67 ≡ t
+        → ◌≡◌ {A = Reads Act} (cond t (command_at bytes) (cond (nat_eq letter 76) (loaded_at bytes) (or_bad (plain_at letter bytes)))) (Ok (act, left))
+        → IsActAt letter bytes act left
     first true is same = command_sound letter bytes left act (is_letter letter 67 is) same
-    first false other same = plain (plain_at letter bytes) refl same
+    first false other same = second (nat_eq letter 76) refl same
 
 -- each act is read as it is written
 act_complete : (act : Act) (rest : List ℕ) → IsFitAct act → act_at (letter_of act) (act_text act ++ rest) ≡ Ok (act, rest)
-unfolding act_at plain_at ended_at taken_at work_at job_at close_at dialed_at command_at
+unfolding act_at plain_at ended_at taken_at work_at job_at close_at dialed_at command_at loaded_at
 act_complete Arrive rest fit = refl
 act_complete Halt rest fit = refl
 act_complete (Command conn block) rest fit =
@@ -290,6 +297,8 @@ act_complete (Dialed slot false) rest fit =
     rw (append_assoc (field slot) (codes " 0\n") rest, slot_complete slot 32 _ fit refl, linked_complete false rest) refl
 act_complete (Work slot) rest fit = rw (append_assoc (field slot) (codes "\n") rest, slot_complete slot 10 rest fit refl) refl
 act_complete (Job job) rest fit = rw (append_assoc (field job) (codes "\n") rest, field_complete job 10 rest fit refl) refl
+act_complete (Loaded job note) rest fit =
+    rw (← loaded_pieces (field job) (note_words note) (note_block note) rest, job_complete job note rest fit.0, note_complete note rest fit.1) refl
 
 -- ---- entries
 
@@ -303,6 +312,7 @@ behind_moment (Close conn how) rest = (32, (_, (refl, refl)))
 behind_moment (Dialed slot linked) rest = (32, (_, (refl, refl)))
 behind_moment (Work slot) rest = (32, (_, (refl, refl)))
 behind_moment (Job job) rest = (32, (_, (refl, refl)))
+behind_moment (Loaded job note) rest = (32, (_, (refl, refl)))
 
 moment_complete : (moment : ℕ) (act : Act) (rest : List ℕ) → moment < 2 ^ 64 → field_at (field moment ++ (act_text act ++ rest)) ≡ Some (moment, act_text act ++ rest)
 moment_complete moment act rest fits =

@@ -7,17 +7,18 @@ use Rattle.std.proofs.lemmas.Slice.Eq.{starts_is}
 use Rattle.std.proofs.lemmas.Bool.Decides.{Decides-eqb}
 use Rattle.std.proofs.lemmas.List.Elements.{All-append}
 use Rattle.fs_machine.specs.declared.entry.Entry.{Entry}
+use Rattle.fs_machine.specs.declared.note.LoadNote.{LoadNote}
 use Rattle.fs_replay.specs.declared.fault.Fault.{Fault}
 use Rattle.fs_replay.specs.declared.fault.Fault.TheVariants.{Bad, Cut}
 use Rattle.fs_replay.specs.declared.fault.JournalFault.{JournalFault}
 use Rattle.fs_replay.specs.declared.fault.JournalFault.TheVariants as faults
 use Rattle.fs_replay.specs.Texts.{field, act_text, entry_text, entries_text, first_line, last_line, lines_text, journal_text}
 use Rattle.fs_replay.specs.Bounds.{IsFit, AreFit}
-use Rattle.fs_replay.specs.Faults.{is_lf, IsCut, IsCutLine, CanFollow, IsBadAt, IsFront, Blames, place_of, command_line}
+use Rattle.fs_replay.specs.Faults.{is_lf, IsCut, IsCutLine, CanFollow, IsBadAt, IsFront, Blames, place_of, command_line, load_line}
 use Rattle.fs_replay.specs.Reading.{begins, entry_at, count_at}
 use Rattle.fs_replay.proofs.Numbers.{word_is}
 use Rattle.fs_replay.proofs.ActLines.{entry_complete}
-use Rattle.fs_replay.proofs.Bad.{cut_complete, cut_sound, count_complete, count_sound}
+use Rattle.fs_replay.proofs.Bad.{cut_complete, text_complete, cut_sound, count_complete, count_sound}
 use Rattle.fs_replay.proofs.Lines.{no_z, no_journal}
 
 -- the word stands in front of what it begins
@@ -70,7 +71,10 @@ next_is_bad bytes left entries front other read = inr (inl (record {
   where
     not_cut : list_any is_lf left ≡ true → IsCutLine left → ⊥
     not_cut whole (inl cut) = cc
-    not_cut whole (inr block) =
+    not_cut whole (inr (inr text)) =
+        let cut = sym read ∙ text_complete left text in
+        cc
+    not_cut whole (inr (inl block)) =
         let cut = sym read ∙ ap entry_at block.is ∙ cut_complete block.moment block.conn block.len block.block block.moment_fits block.conn_fits block.len_fits block.short in
         cc
 
@@ -98,6 +102,14 @@ not_command left moment conn len block z is =
     let heads : ◌≡◌ {A = ℕ} 67 90 = cc in
     absurd (omega (arith, heads))
 
+not_load : (left : List ℕ) (moment job : ℕ) (told : LoadNote) (len : ℕ) (block : List ℕ) → begins (codes "Z") left ≡ true
+    → left ≡ load_line moment job told len ++ block → ⊥
+unfolding load_line
+not_load left moment job told len block z is =
+    let same = sym is ∙ word_is (codes "Z") left z in
+    let heads : ◌≡◌ {A = ℕ} 76 90 = cc in
+    absurd (omega (arith, heads))
+
 -- the last line
 pub last_is_bad : (bytes left : List ℕ) (entries : List Entry) → IsFront bytes entries left → begins (codes "Z") left ≡ true → length entries < 2 ^ 64
     → ((behind : List ℕ) → count_at left ≡ Some (length entries, behind) → ⊥) → IsBadAt bytes (place_of bytes left)
@@ -117,7 +129,8 @@ last_is_bad bytes left entries front z small other = inr (inl (record {
 
     not_cut : list_any is_lf left ≡ true → IsCutLine left → ⊥
     not_cut whole (inl cut) = cc
-    not_cut whole (inr block) = not_command left block.moment block.conn block.len block.block z block.is
+    not_cut whole (inr (inl block)) = not_command left block.moment block.conn block.len block.block z block.is
+    not_cut whole (inr (inr text)) = not_load left text.moment text.job text.note text.len text.block z text.is
 
     place : (t : Bool) → list_any is_lf left ≡ t
         → (IsCutLine left × (cond t (length bytes - length left) (length bytes) ≡ length bytes))

@@ -4,7 +4,7 @@ use Rattle.std.specs.List.{All}
 use Rattle.std.proofs.lemmas.List.{append-nil, append_cancel_left}
 use Rattle.fs_machine.specs.declared.entry.Entry.{Entry}
 use Rattle.fs_machine.specs.declared.entry.Act.{Act}
-use Rattle.fs_machine.specs.declared.entry.Act.TheVariants.{Arrive, Command, Take, Close, Dialed, Work, Job, Halt}
+use Rattle.fs_machine.specs.declared.entry.Act.TheVariants.{Arrive, Command, Take, Close, Dialed, Work, Job, Loaded, Halt}
 use Rattle.fs_replay.specs.Texts.{letter_of, entry_text, entries_text, first_line, last_line, lines_text, journal_text}
 use Rattle.fs_replay.specs.Bounds.{IsFit, AreFit}
 use Rattle.fs_replay.specs.Faults.{IsBadFirst, IsBadNext, IsBadBehind, IsBadAt}
@@ -20,6 +20,7 @@ no_letter (Close conn how) h = absurd (omega arith)
 no_letter (Dialed slot linked) h = absurd (omega arith)
 no_letter (Work slot) h = absurd (omega arith)
 no_letter (Job job) h = absurd (omega arith)
+no_letter (Loaded job note) h = absurd (omega arith)
 
 -- an entry's line does not begin as the last line does
 pub no_z : (entry : Entry) (a b : List ℕ) → entry_text entry ++ a ≡ 90 ∷ b → ⊥

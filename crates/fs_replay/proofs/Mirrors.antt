@@ -13,7 +13,11 @@ use Rattle.fs_replay.specs.declared.fault.Fault.TheVariants.{Bad, Cut, Memory}
 use Rattle.fs_machine.specs.declared.entry.Act.{Act}
 use Rattle.fs_machine.specs.declared.entry.Entry.{Entry}
 use Rattle.fs_machine.specs.declared.entry.Closing.TheVariants.{EndOfInput, Sent, Failed}
-use Rattle.fs_replay.specs.Reading.{Read, Reads, Took, Gave, begins, below, or_bad, of_act, of_block, closing_at, linked_at, plain_at}
+use Rattle.fs_machine.specs.declared.note.LoadNote.{LoadNote}
+use Rattle.fs_machine.specs.declared.note.LoadNote.TheVariants as note
+use Rattle.fs_replay.specs.declared.loads.Kind.{Kind}
+use Rattle.fs_replay.specs.declared.loads.Kind.TheVariants as kinds
+use Rattle.fs_replay.specs.Reading.{Read, Reads, Took, Gave, and_then, begins, below, or_bad, of_act, of_block, of_text, of_note, closing_at, linked_at, kind_at, spot_at, notice_at, note_at, of_notice, plain_at}
 
 -- ---- numbers
 
@@ -90,6 +94,66 @@ linked_none old mid none same nor =
     let nowhere = nor ∙ ap (begins (codes " 0\n")) same in
     rw (← none, ← nowhere) refl
 
+pub kind_ready : (old new : List ℕ) → true ≡ begins (codes " ready") old → new ≡ drop 6 old → kind_at old ≡ Some (kinds.Ready, new)
+unfolding kind_at
+kind_ready old new found left = rw (← found, left) refl
+
+pub kind_doc : (old mid new : List ℕ) → false ≡ begins (codes " ready") old → mid ≡ old → true ≡ begins (codes " doc") mid → new ≡ drop 4 mid
+    → kind_at old ≡ Some (kinds.DocRefused, new)
+unfolding kind_at
+kind_doc old mid new none same found left =
+    let there = found ∙ ap (begins (codes " doc")) same in
+    let behind = left ∙ ap (drop 4) same in
+    rw (← none, ← there, behind) refl
+
+pub kind_pattern : (old mid late new : List ℕ) → false ≡ begins (codes " ready") old → mid ≡ old → false ≡ begins (codes " doc") mid → late ≡ mid
+    → true ≡ begins (codes " pattern") late → new ≡ drop 8 late → kind_at old ≡ and_then (spot_at new) (λ spot left. Some (kinds.PatternRefused spot, left))
+unfolding kind_at
+kind_pattern old mid late new none same nor still found left =
+    let nowhere = nor ∙ ap (begins (codes " doc")) same in
+    let there = found ∙ ap (begins (codes " pattern")) (still ∙ same) in
+    let behind = left ∙ ap (drop 8) (still ∙ same) in
+    rw (← none, ← nowhere, ← there, behind) refl
+
+pub kind_large : (old mid late last new : List ℕ) → false ≡ begins (codes " ready") old → mid ≡ old → false ≡ begins (codes " doc") mid → late ≡ mid
+    → false ≡ begins (codes " pattern") late → last ≡ late → true ≡ begins (codes " large") last → new ≡ drop 6 last
+    → kind_at old ≡ and_then (spot_at new) (λ spot left. Some (kinds.PatternTooLarge spot, left))
+unfolding kind_at
+kind_large old mid late last new none same nor still neither yet found left =
+    let nowhere = nor ∙ ap (begins (codes " doc")) same in
+    let absent = neither ∙ ap (begins (codes " pattern")) (still ∙ same) in
+    let there = found ∙ ap (begins (codes " large")) (yet ∙ still ∙ same) in
+    let behind = left ∙ ap (drop 6) (yet ∙ still ∙ same) in
+    rw (← none, ← nowhere, ← absent, ← there, behind) refl
+
+pub kind_none : (old mid late last : List ℕ) → false ≡ begins (codes " ready") old → mid ≡ old → false ≡ begins (codes " doc") mid → late ≡ mid
+    → false ≡ begins (codes " pattern") late → last ≡ late → false ≡ begins (codes " large") last → kind_at old ≡ None
+unfolding kind_at
+kind_none old mid late last none same nor still neither yet never =
+    let nowhere = nor ∙ ap (begins (codes " doc")) same in
+    let absent = neither ∙ ap (begins (codes " pattern")) (still ∙ same) in
+    let small = never ∙ ap (begins (codes " large")) (yet ∙ still ∙ same) in
+    rw (← none, ← nowhere, ← absent, ← small) refl
+
+pub note_absent : (old new : List ℕ) → true ≡ begins (codes " absent\n") old → new ≡ drop 8 old → note_at old ≡ Ok (note.Absent, new)
+unfolding note_at
+note_absent old new found left = rw (← found, left) refl
+
+pub note_failed : (old mid new : List ℕ) → false ≡ begins (codes " absent\n") old → mid ≡ old → true ≡ begins (codes " failed\n") mid → new ≡ drop 8 mid
+    → note_at old ≡ Ok (note.Failed, new)
+unfolding note_at
+note_failed old mid new none same found left =
+    let there = found ∙ ap (begins (codes " failed\n")) same in
+    let behind = left ∙ ap (drop 8) same in
+    rw (← none, ← there, behind) refl
+
+pub note_of_text : (old mid late : List ℕ) → false ≡ begins (codes " absent\n") old → mid ≡ old → false ≡ begins (codes " failed\n") mid → late ≡ mid
+    → note_at old ≡ of_notice (notice_at late)
+unfolding note_at
+note_of_text old mid late none same nor still =
+    let nowhere = nor ∙ ap (begins (codes " failed\n")) same in
+    rw (← none, ← nowhere, still, same) refl
+
 -- ---- faults
 
 pub bad_given : {X : Type 0} (o : Option X) (r : Result X Fault) (left : List ℕ) (read : Read X) → Took o left read → r ≡ ok_or o Bad
@@ -109,9 +173,21 @@ block_fails Bad conn old new read gave = ap (of_block conn) gave
 block_fails Cut conn old new read gave = ap (of_block conn) gave
 block_fails Memory conn old new read gave = tt
 
+pub text_fails : (fault : Fault) (kind : Kind) (old new : List ℕ) (read : Reads (List ℕ)) → Gave {X = List ℕ} (Err fault) old read
+    → Gave {X = LoadNote} (Err fault) new (of_text kind read)
+text_fails Bad kind old new read gave = ap (of_text kind) gave
+text_fails Cut kind old new read gave = ap (of_text kind) gave
+text_fails Memory kind old new read gave = tt
+
+pub note_fails : (fault : Fault) (job : ℕ) (old new : List ℕ) (read : Reads LoadNote) → Gave {X = LoadNote} (Err fault) old read
+    → Gave {X = Act} (Err fault) new (of_note job read)
+note_fails Bad job old new read gave = ap (of_note job) gave
+note_fails Cut job old new read gave = ap (of_note job) gave
+note_fails Memory job old new read gave = tt
+
 -- ---- letters
 
-off : (letter n : ℕ) → letter ≢ n → nat_eq letter n ≡ false
+pub off : (letter n : ℕ) → letter ≢ n → nat_eq letter n ≡ false
 off letter n other = grind (arith, nat_tests)
 
 pub plain_none : (letter : ℕ) (bytes : List ℕ) → letter ≢ 65 → letter ≢ 72 → letter ≢ 84 → letter ≢ 88 → letter ≢ 68 → letter ≢ 87 → letter ≢ 74

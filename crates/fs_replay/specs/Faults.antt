@@ -2,12 +2,15 @@
 use Rattle.std.specs.Prelude.{◌≡◌, ◌≢◌, ◌⊎◌, ℕ, ◌≤◌, ◌<◌, ◌^◌, ◌-◌, ◌==◌, Bool, false, List, [], ◌∷◌, ◌++◌, length, codes}
 use Rattle.std.specs.List.{list_any}
 use Rattle.fs_machine.specs.declared.entry.Entry.{Entry}
+use Rattle.fs_machine.specs.declared.entry.Act.TheVariants.{Loaded}
+use Rattle.fs_machine.specs.declared.note.LoadNote.{LoadNote}
+use Rattle.fs_machine.specs.declared.note.LoadNote.TheVariants.{Ready, DocRefused, PatternRefused, PatternTooLarge, Absent, Failed}
 use Rattle.std.specs.Prelude.{Result, Ok, Err, if◌then◌else◌}
 use Rattle.fs_machine.specs.Journals.{Entered}
 use Rattle.fs_replay.specs.declared.fault.JournalFault.{JournalFault}
 use Rattle.fs_replay.specs.declared.fault.JournalFault.TheVariants.{BadLine, Memory}
-use Rattle.fs_replay.specs.Texts.{field, entry_text, first_line, last_line, lines_text, journal_text}
-use Rattle.fs_replay.specs.Bounds.{IsFit, AreFit}
+use Rattle.fs_replay.specs.Texts.{field, note_words, entry_text, first_line, last_line, lines_text, journal_text}
+use Rattle.fs_replay.specs.Bounds.{IsFitAct, IsFit, AreFit}
 
 -- LF, which ends a line
 abbrev pub is_lf : ℕ → Bool
@@ -33,9 +36,36 @@ pub record IsCutBlock (left : List ℕ) : Type 0 where
   pub is : left ≡ command_line moment conn len ++ block
   pub short : length block ≤ len
 
+-- some bytes were loaded
+abbrev pub HasText : LoadNote → Type 0
+HasText (Ready text) = Unit {0}
+HasText (DocRefused text) = Unit {0}
+HasText (PatternRefused text extension condition) = Unit {0}
+HasText (PatternTooLarge text extension condition) = Unit {0}
+HasText Absent = ⊥
+HasText Failed = ⊥
+
+-- the line of a load up to the text that was loaded
+unfoldable pub load_line : ℕ → ℕ → LoadNote → ℕ → List ℕ
+load_line moment job note len = 76 ∷ field moment ++ field job ++ note_words note ++ field len ++ codes "\n"
+
+-- the bytes end within the text that was loaded or before the LF behind it
+pub record IsCutText (left : List ℕ) : Type 0 where
+  pub moment : ℕ
+  pub job : ℕ
+  pub note : LoadNote
+  pub len : ℕ
+  pub block : List ℕ
+  pub moment_fits : moment < 2 ^ 64
+  pub act_fits : IsFitAct (Loaded job note)
+  pub len_fits : len < 2 ^ 64
+  pub text : HasText note
+  pub is : left ≡ load_line moment job note len ++ block
+  pub short : length block ≤ len
+
 -- the bytes end within the line of an entry or the last line
 abbrev pub IsCutLine : List ℕ → Type 0
-IsCutLine left = IsCut left ⊎ IsCutBlock left
+IsCutLine left = IsCut left ⊎ (IsCutBlock left ⊎ IsCutText left)
 
 -- behind these entries' lines it can be the next line of a journal
 abbrev pub CanFollow : List Entry → List ℕ → Type 0

@@ -6,12 +6,17 @@ use Rattle.std.specs.List.{position_or_len, starts_with}
 use Rattle.fs_text.specs.Number.{read_u64}
 use Rattle.fs_machine.specs.declared.entry.Entry.{Entry}
 use Rattle.fs_machine.specs.declared.entry.Act.{Act}
-use Rattle.fs_machine.specs.declared.entry.Act.TheVariants.{Arrive, Command, Take, Close, Dialed, Work, Job, Halt}
+use Rattle.fs_machine.specs.declared.entry.Act.TheVariants.{Arrive, Command, Take, Close, Dialed, Work, Job, Loaded, Halt}
 use Rattle.fs_machine.specs.declared.entry.Closing.{Closing}
 use Rattle.fs_machine.specs.declared.entry.Closing.TheVariants.{EndOfInput, Sent, Failed}
+use Rattle.fs_machine.specs.declared.note.LoadNote.{LoadNote}
+use Rattle.fs_machine.specs.declared.note.LoadNote.TheVariants as note
 use Rattle.fs_replay.specs.declared.fault.Fault.{Fault}
 use Rattle.fs_replay.specs.declared.fault.Fault.TheVariants.{Bad, Cut, Memory}
 use Rattle.fs_replay.specs.declared.acts.Head.{Head}
+use Rattle.fs_replay.specs.declared.loads.Kind.{Kind}
+use Rattle.fs_replay.specs.declared.loads.Kind.TheVariants.{Ready, DocRefused, PatternRefused, PatternTooLarge}
+use Rattle.fs_replay.specs.declared.loads.Spot.{Spot}
 
 -- what was read, and what is left behind it; or nothing was
 abbrev pub Read : Type 0 → Type 0
@@ -103,7 +108,7 @@ linked_at bytes = if begins (codes " 1\n") bytes then Some (true, drop 3 bytes) 
 unfoldable pub dialed_at : List ℕ → Read Act
 dialed_at bytes = and_then (slot_at bytes) (λ slot left. and_then (linked_at left) (λ linked behind. Some (Dialed slot linked, behind)))
 
--- the act of a letter other than that of a command
+-- the act of a letter other than those of a command and of a load
 unfoldable pub plain_at : ℕ → List ℕ → Read Act
 plain_at letter bytes =
     if letter == 65 then ended_at Arrive bytes
@@ -144,6 +149,60 @@ of_head (Some r) = of_block r.0.conn (block_at r.0.len r.1)
 unfoldable pub command_at : List ℕ → Reads Act
 command_at bytes = of_head (head_at bytes)
 
+-- ---- loads
+
+-- an extension and a condition
+unfoldable pub spot_at : List ℕ → Read Spot
+spot_at bytes =
+    and_then (conn_at bytes) (λ extension left.
+    and_then (conn_at left) (λ condition behind. Some (record { extension = extension; condition = condition }, behind)))
+
+-- what is noted of a text
+unfoldable pub kind_at : List ℕ → Read Kind
+kind_at bytes =
+    if begins (codes " ready") bytes then Some (Ready, drop 6 bytes)
+    else (if begins (codes " doc") bytes then Some (DocRefused, drop 4 bytes)
+    else (if begins (codes " pattern") bytes then and_then (spot_at (drop 8 bytes)) (λ spot left. Some (PatternRefused spot, left))
+    else (if begins (codes " large") bytes then and_then (spot_at (drop 6 bytes)) (λ spot left. Some (PatternTooLarge spot, left))
+    else None)))
+
+-- with the text
+abbrev pub noted : Kind → List ℕ → LoadNote
+noted Ready text = note.Ready text
+noted DocRefused text = note.DocRefused text
+noted (PatternRefused spot) text = note.PatternRefused text spot.extension spot.condition
+noted (PatternTooLarge spot) text = note.PatternTooLarge text spot.extension spot.condition
+
+-- what is noted, and the length of the text
+unfoldable pub notice_at : List ℕ → Read (Kind × ℕ)
+notice_at bytes =
+    and_then (kind_at bytes) (λ kind left. and_then (field_at left) (λ len behind. word_at (codes "\n") (kind, len) behind))
+
+abbrev pub of_text : Kind → Reads (List ℕ) → Reads LoadNote
+of_text kind (Ok r) = Ok (noted kind r.0, r.1)
+of_text kind (Err fault) = Err fault
+
+abbrev pub of_notice : Read (Kind × ℕ) → Reads LoadNote
+of_notice None = Err Bad
+of_notice (Some r) = of_text r.0.0 (block_at r.0.1 r.1)
+
+unfoldable pub note_at : List ℕ → Reads LoadNote
+note_at bytes =
+    if begins (codes " absent\n") bytes then Ok (note.Absent, drop 8 bytes)
+    else (if begins (codes " failed\n") bytes then Ok (note.Failed, drop 8 bytes) else of_notice (notice_at bytes))
+
+-- a load of a job
+abbrev pub of_note : ℕ → Reads LoadNote → Reads Act
+of_note job (Ok r) = Ok (Loaded job r.0, r.1)
+of_note job (Err fault) = Err fault
+
+abbrev pub of_job : Read ℕ → Reads Act
+of_job None = Err Bad
+of_job (Some r) = of_note r.0 (note_at r.1)
+
+unfoldable pub loaded_at : List ℕ → Reads Act
+loaded_at bytes = of_job (field_at bytes)
+
 -- ---- entries
 
 abbrev pub or_bad : {X : Type 0} → Read X → Reads X
@@ -152,7 +211,9 @@ or_bad (Some r) = Ok r
 
 -- the act of any letter
 unfoldable pub act_at : ℕ → List ℕ → Reads Act
-act_at letter bytes = if letter == 67 then command_at bytes else or_bad (plain_at letter bytes)
+act_at letter bytes =
+    if letter == 67 then command_at bytes
+    else (if letter == 76 then loaded_at bytes else or_bad (plain_at letter bytes))
 
 abbrev pub of_act : ℕ → Reads Act → Reads Entry
 of_act moment (Ok r) = Ok (record { moment = moment; act = r.0 }, r.1)

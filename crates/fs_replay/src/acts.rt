@@ -46,13 +46,14 @@ impl<'a> Reader<'a> {
     fn act(&mut self, alloc: Global, letter: u8) -> Result<Act, Fault>
         ensures { spec.Gave result self.new (spec.act_at letter self.old) }
     {
-        if letter == b'C' {
-            return self.command(alloc);
+        match letter {
+            b'C' => self.command(alloc),
+            b'L' => self.loaded(alloc),
+            _ => self.plain(letter).ok_or(Fault::Bad),
         }
-        self.plain(letter).ok_or(Fault::Bad)
     }
 
-    /// Takes what any act but a command says.
+    /// Takes what any act but a command and a load says.
     fn plain(&mut self, letter: u8) -> Option<Act>
         ensures { spec.Took result self.new (spec.plain_at letter self.old) }
     {
@@ -167,7 +168,7 @@ impl<'a> Reader<'a> {
     }
 
     /// Takes a block of so many bytes, and the LF behind it.
-    fn block(&mut self, alloc: Global, len: u64) -> Result<Txt, Fault>
+    pub fn block(&mut self, alloc: Global, len: u64) -> Result<Txt, Fault>
         ensures { spec.Gave result self.new (spec.block_at len self.old) }
     {
         let Some(block) = self.bytes(len) else {

@@ -28,7 +28,7 @@ impl From<Memory> for JournalFault {
 pub(crate) enum Fault {
     /// It is no line of an entry, or it is cut before its first LF.
     Bad,
-    /// It is the line of a command, and the bytes end before the LF behind its block.
+    /// It is the line of a command or of a text that was loaded, and the bytes end before the LF behind its block or text.
     Cut,
     /// There was no memory for the entry.
     Memory,

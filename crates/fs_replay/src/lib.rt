@@ -4,6 +4,7 @@
 mod acts;
 mod fault;
 mod laws;
+mod loads;
 mod reader;
 mod reading;
 #[cfg(test)]

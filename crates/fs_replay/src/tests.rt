@@ -8,8 +8,11 @@ use std::test::Fail;
 
 const TEXT: &str = "fsw journal 1\nA 0\nT 0 1\nC 0 1 14\nauth ClueCon\n\n\nT 0 1\nZ 4\n";
 
+const LOADS: &str =
+    "fsw journal 1\nL 7 1 ready 1\na\nL 7 2 doc 0\n\nL 7 3 pattern 4 1 1\nx\nL 7 4 large 9 2 1\ny\nL 8 5 absent\nZ 5\n";
+
 /// Bytes, and where they are bad.
-const BAD: [(&str, u64); 6] = [
+const BAD: [(&str, u64); 9] = [
     (
         "fsw journal 1\nA 0\nT 0 1\nC 0 1 14\nauth ClueCon\n\n\nT 0 1\n",
         54,
@@ -19,6 +22,9 @@ const BAD: [(&str, u64); 6] = [
     ("fsw journal 1\nA 0\nZ 1\nx", 22),
     ("fsw journal 1\nC 0 1 14\nauth", 27),
     ("fsw journal 2\nZ 0\n", 0),
+    ("fsw journal 1\nL 0 1 doc 9\n<doc\nume", 34),
+    ("fsw journal 1\nL 0 1 pattern 1 4294967296 1\nx\nZ 1\n", 14),
+    ("fsw journal 1\nL 0 1 gone\nZ 1\n", 14),
 ];
 
 fn entries(alloc: Global) -> Result<Journal, Memory> {
@@ -48,6 +54,15 @@ fn journal_is_read_back(rt: HostRuntime) -> Result<(), Fail> {
     assert_eq!(rt; journal.entries().len(), 4);
     let text = write_journal(rt.alloc(), &journal)?;
     assert_eq!(rt; text.as_bytes(), TEXT.as_bytes());
+    Ok(())
+}
+
+#[test]
+fn loads_are_read_back(rt: HostRuntime) -> Result<(), Fail> {
+    let journal = read_journal(rt.alloc(), LOADS.as_bytes())?;
+    assert_eq!(rt; journal.entries().len(), 5);
+    let text = write_journal(rt.alloc(), &journal)?;
+    assert_eq!(rt; text.as_bytes(), LOADS.as_bytes());
     Ok(())
 }
 

@@ -3,7 +3,7 @@
 ghost use Rattle.std.specs.Prelude.{◌≡◌, ◌++◌, codes, length, IfOk, OnOk};
 ghost use Rattle.fs_replay.specs.Texts as texts;
 
-use fs_machine::{Act, Closing, Entry, Journal};
+use fs_machine::{Act, Closing, Entry, Journal, LoadNote};
 use fs_text::{Memory, Txt};
 use itoa::Buffer;
 use std::alloc::Global;
@@ -52,6 +52,7 @@ fn letter_of(act: &Act) -> u8
         Act::Dialed { .. } => b'D',
         Act::Work { .. } => b'W',
         Act::Job { .. } => b'J',
+        Act::Loaded { .. } => b'L',
     }
 }
 
@@ -68,15 +69,77 @@ fn push_act(out: &mut Vec<u8>, act: &Act) -> Result<(), Memory>
         Act::Dialed { slot, linked } => push_dialed(out, *slot, *linked),
         Act::Work { slot } => push_last(out, *slot as u64),
         Act::Job { job } => push_last(out, *job),
+        Act::Loaded { job, note } => push_loaded(out, *job, note),
     }
 }
 
 /// Writes what a command says: its connection, the length of its block, and the block.
 fn push_command(out: &mut Vec<u8>, conn: u32, block: &[u8]) -> Result<(), Memory>
-    ensures { OnOk result (out.new.items ≡ out.old.items
-        ++ (texts.field conn ++ texts.field (length block.now) ++ codes "\n" ++ block.now ++ codes "\n")) }
+    ensures { OnOk result (out.new.items ≡ out.old.items ++ (texts.field conn ++ texts.block_text block.now)) }
 {
     push_field(out, conn as u64)?;
+    push_block(out, block)
+}
+
+/// Writes which job a load was for, and what is noted of it.
+fn push_loaded(out: &mut Vec<u8>, job: u64, note: &LoadNote) -> Result<(), Memory>
+    ensures { OnOk result (out.new.items ≡ out.old.items ++ (texts.field job ++ texts.note_words note.now ++ texts.note_block note.now)) }
+{
+    push_field(out, job)?;
+    push_note(out, note)
+}
+
+/// Writes what is noted of a load, and the text that was loaded.
+fn push_note(out: &mut Vec<u8>, note: &LoadNote) -> Result<(), Memory>
+    ensures { OnOk result (out.new.items ≡ out.old.items ++ (texts.note_words note.now ++ texts.note_block note.now)) }
+{
+    match note {
+        LoadNote::Ready(text) => push_text(out, b" ready", text),
+        LoadNote::DocRefused(text) => push_text(out, b" doc", text),
+        LoadNote::PatternRefused {
+            text,
+            extension,
+            condition,
+        } => push_pattern(out, b" pattern", *extension, *condition, text),
+        LoadNote::PatternTooLarge {
+            text,
+            extension,
+            condition,
+        } => push_pattern(out, b" large", *extension, *condition, text),
+        LoadNote::Absent => push(out, b" absent\n"),
+        LoadNote::Failed => push(out, b" failed\n"),
+    }
+}
+
+/// Writes a word, and a text that was loaded.
+fn push_text(out: &mut Vec<u8>, word: &[u8], text: &Txt) -> Result<(), Memory>
+    ensures { OnOk result (out.new.items ≡ out.old.items ++ (word.now ++ texts.block_text text.now)) }
+{
+    push(out, word)?;
+    push_block(out, text.as_bytes())
+}
+
+/// Writes a word, which pattern was refused, and the text that was loaded.
+fn push_pattern(
+    out: &mut Vec<u8>,
+    word: &[u8],
+    extension: u32,
+    condition: u32,
+    text: &Txt,
+) -> Result<(), Memory>
+    ensures { OnOk result (out.new.items ≡ out.old.items
+        ++ ((word.now ++ texts.field extension ++ texts.field condition) ++ texts.block_text text.now)) }
+{
+    push(out, word)?;
+    push_field(out, extension as u64)?;
+    push_field(out, condition as u64)?;
+    push_block(out, text.as_bytes())
+}
+
+/// Writes the length of some bytes, and the bytes.
+fn push_block(out: &mut Vec<u8>, block: &[u8]) -> Result<(), Memory>
+    ensures { OnOk result (out.new.items ≡ out.old.items ++ texts.block_text block.now) }
+{
     push_last(out, block.len() as u64)?;
     push(out, block)?;
     push(out, b"\n")

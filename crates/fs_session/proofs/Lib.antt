@@ -1,3 +1,4 @@
+mod LoadLemmas
 mod SeekLemmas
 mod TalkLemmas
 pub mod UnlinkedLemmas

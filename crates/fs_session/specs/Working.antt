@@ -19,6 +19,7 @@ use Rattle.fs_machine.specs.declared.reply.Reply.{Reply}
 use Rattle.fs_machine.specs.Controlling.{dial_at}
 use Rattle.fs_machine.specs.Due.{next_slot, next_job}
 use Rattle.fs_machine.specs.Questions.{jobs_left}
+use Rattle.fs_machine.specs.Routes.{IsInForceAfter}
 use Rattle.fs_machine.specs.Step.{refused_as_full}
 use Rattle.fs_machine.specs.Laws.{state_after}
 use Rattle.fs_machine.specs.Turned.{IsJournal, Answers}
@@ -30,7 +31,7 @@ use Rattle.fs_session.specs.declared.standing.Standing.{Standing}
 use Rattle.fs_session.specs.declared.standing.Standing.TheVariants.{Full, Over, Seeks, Routes, Due}
 use Rattle.fs_session.specs.declared.standing.StandingOf.{StandingOf}
 use Rattle.fs_session.specs.declared.worked.Worked.{Worked}
-use Rattle.fs_session.specs.declared.worked.Worked.TheVariants.{Did, Idle, Talk, Stopped, Refused}
+use Rattle.fs_session.specs.declared.worked.Worked.TheVariants.{Did, Idle, Talk, Load, Stopped, Refused}
 
 -- ---- how an actor stands
 
@@ -69,19 +70,19 @@ abbrev pub plain : Standing → Standing
 plain (Routes slot seen) = Due (due.Slot slot)
 plain how = how
 
--- what is seen for a route has the dialplan that was configured
-abbrev pub IsOfDialplan : Configuration → Standing → Type 0
-IsOfDialplan config (Routes slot seen) = arc_value seen.dialplan ≡ config.contexts
-IsOfDialplan config _ = Unit {0}
+-- what is seen for a route has the dialplan that was in force behind these entries, after as many loads as it says
+abbrev pub IsOfDialplan : Configuration → List Entry → Standing → Type 0
+IsOfDialplan config log (Routes slot seen) = IsInForceAfter config log seen.reloads (arc_value seen.dialplan)
+IsOfDialplan config log _ = Unit {0}
 
 -- what a look tells: these entries are a run, and so the actor stands behind them, unless there was no memory
-abbrev pub IsStanding : Configuration → Standing → Result Standing Memory → Type 0
-IsStanding config how (Ok answer) = (plain answer ≡ how) × IsOfDialplan config answer
-IsStanding config how (Err memory) = Unit {0}
+abbrev pub IsStanding : Configuration → List Entry → Standing → Result Standing Memory → Type 0
+IsStanding config log how (Ok answer) = (plain answer ≡ how) × IsOfDialplan config log answer
+IsStanding config log how (Err memory) = Unit {0}
 
 pub record TellsActor (asked : StandingOf) (config : Configuration) (log : List Entry) (answer : Result Standing Memory) : Type 0 where
   pub run : IsJournal config log
-  pub stands : IsStanding config (standing asked.actor asked.now (state_after config log)) answer
+  pub stands : IsStanding config log (standing asked.actor asked.now (state_after config log)) answer
 
 -- ---- what comes of a turn
 
@@ -95,13 +96,14 @@ abbrev pub IsErrand : DueActor → Type 0
 IsErrand (due.Dial slot) = ⊥
 IsErrand _ = Unit {0}
 
--- what is to be done, or the moment before which there is nothing to do, if there is one
-abbrev pub errand_of : DueActor → Result Errand (Option ℕ)
+-- what is to be done, or the answer where that is no entry: a job waits for a load, or there is nothing to do yet
+abbrev pub errand_of : DueActor → Result Errand Worked
 errand_of (due.Slot slot) = Ok (errand.Slot slot)
-errand_of (due.Dial slot) = Err None
+errand_of (due.Dial slot) = Err (Idle None)
 errand_of (due.Job job) = Ok (errand.Job job)
-errand_of (due.Later next) = Err (Some next)
-errand_of due.Never = Err None
+errand_of (due.Load job) = Err (Load job)
+errand_of (due.Later next) = Err (Idle (Some next))
+errand_of due.Never = Err (Idle None)
 
 -- who is to be dialed for whom a text names, unless there was no memory
 abbrev pub Talks : Text → Worked → Type 0
@@ -161,6 +163,7 @@ module _ (config : Configuration) (seen : List Entry) (mine : List ℕ) (seen' :
   Works actor now (Idle None) = Stands actor now (Due due.Never)
   Works actor now (Idle (Some next)) = Stands actor now (Due (due.Later next))
   Works actor now (Talk target) = Sought actor now target
+  Works actor now (Load job) = Stands actor now (Due (due.Load job))
   Works actor now Stopped = Stands actor now Over
   Works actor now (Refused why) = Fails why
 

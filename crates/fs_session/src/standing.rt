@@ -80,11 +80,11 @@ fn sought_by(actor: Actor, state: &Machine) -> Option<&Txt>
 // What the actor has to do, seen at a moment, where its channel waits for no controller.
 fn due_standing(actor: Actor, now: u64, state: &Machine) -> Result<Standing, Memory>
     ensures stands { IfOk result (λ how. spec.plain how ≡ Due (spec.due_of actor now (state_of state.now))) }
-    ensures routes { IfOk result (spec.IsOfDialplan state.now.config) }
+    ensures routes { IfOk result (spec.IsOfDialplan state.now.config state.now.journal) }
 {
     let due = due_at(actor, now, state);
     if let DueActor::Slot(slot) = due {
-        if let Some(seen) = state.snapshot(slot)? {
+        if let Some(seen) = state.snapshot(now, slot)? {
             return Ok(Standing::Routes { slot, seen });
         }
     }

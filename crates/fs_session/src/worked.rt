@@ -14,6 +14,8 @@ pub enum Worked {
     Idle { next: Option<u64> },
     /// The channel in the slot waits for this controller, who is to be dialed.
     Talk(Target),
+    /// The least job that has something to do waits for a load, as `load_once` notes one.
+    Load(u64),
     /// The switch has come to its end, and nothing of this actor is left.
     Stopped,
     /// The journal is full, or there was no memory.

@@ -1,10 +1,11 @@
 //! A turn, beside others who enter.
 
-ghost use Rattle.std.specs.Prelude.{◌≡◌, true};
+ghost use Rattle.std.specs.Prelude.{◌≡◌, true, false};
 ghost use Rattle.std.specs.Arc.{arc_value};
 ghost use Rattle.fs_book.specs.Passes.{seen, mine, met, parts, opening_state, IsPassOf};
 ghost use Rattle.fs_machine.specs.Controlling.{names_target};
-ghost use Rattle.fs_machine.specs.Routes.{Suits};
+ghost use Rattle.fs_machine.specs.Entries.{is_load};
+ghost use Rattle.fs_machine.specs.Routes.{Suits, IsInForceAfter};
 ghost use Rattle.fs_machine.specs.Turned.{configured, IsJournal};
 ghost use Rattle.fs_session.specs.declared.actor.Errand.TheVariants.{Slot};
 ghost use Rattle.fs_session.specs.Working as spec;
@@ -24,7 +25,8 @@ use std::sync::Wait;
 const PLANS: u32 = 3;
 
 /// Does the one thing that an actor has to do at a moment, in microseconds, if there is any. A channel that waits for a
-/// controller waits on: the answer says who is to be dialed, as `talk_once` does.
+/// controller waits on: the answer says who is to be dialed, as `talk_once` does. So does a job that waits for a load,
+/// as `load_once` notes one.
 ///
 /// A channel that is to be routed has its route planned outside the lock, where the hunt passes the gate between two
 /// conditions, so however long that takes it holds up nobody else. Where what the route rests on has changed meanwhile,
@@ -86,7 +88,7 @@ fn take_turn<R: Wait, G: Gate>(
         Standing::Routes { slot, .. } => attempt(rt, book, pass, Errand::Slot(slot), now),
         Standing::Due(due) => match errand_of(due) {
             Ok(errand) => attempt(rt, book, pass, errand, now),
-            Err(next) => Some(Worked::Idle { next }),
+            Err(worked) => Some(worked),
         },
     }
 }
@@ -104,7 +106,8 @@ fn route<R: Wait, G: Gate>(
     plans: &mut u32,
 ) -> Option<Worked>
     requires book { IsPassOf configured book.now pass.old }
-    requires dialplan { arc_value snapshot.dialplan ≡ (configured (opening_state book.now)).contexts }
+    requires dialplan { IsInForceAfter (configured (opening_state book.now)) (seen pass.old) snapshot.reloads
+        (arc_value snapshot.dialplan) }
     requires run { IsJournal (configured (opening_state book.now)) (seen pass.old) }
     ensures book { IsPassOf configured book.now pass.new }
     ensures kept { (met pass.new ≡ met pass.old) × (parts pass.new ≡ parts pass.old) }
@@ -129,7 +132,7 @@ fn submit_route<R: Wait>(
     plans: &mut u32,
 ) -> Option<Worked>
     requires book { IsPassOf configured book.now pass.old }
-    requires suits { Suits (configured (opening_state book.now)) plan }
+    requires suits { Suits (configured (opening_state book.now)) (seen pass.old) plan }
     ensures book { IsPassOf configured book.now pass.new }
     ensures kept { (met pass.new ≡ met pass.old) × (parts pass.new ≡ parts pass.old) }
     ensures tries { spec.Attempts (configured (opening_state book.now)) (seen pass.old) (mine pass.old)
@@ -163,16 +166,17 @@ fn talk(alloc: Global, text: &Txt) -> Worked
     }
 }
 
-// What is to be done, or the moment before which there is nothing to do, if there is one.
-fn errand_of(due: DueActor) -> Result<Errand, Option<u64>>
+// What is to be done, or the answer where that is no entry: a job waits for a load, or there is nothing to do yet.
+fn errand_of(due: DueActor) -> Result<Errand, Worked>
     requires { spec.IsErrand due }
     ensures { result ≡ spec.errand_of due }
 {
     match due {
         DueActor::Slot(slot) => Ok(Errand::Slot(slot)),
         DueActor::Job(job) => Ok(Errand::Job(job)),
-        DueActor::Later(next) => Err(Some(next)),
-        DueActor::Never => Err(None),
+        DueActor::Load(job) => Err(Worked::Load(job)),
+        DueActor::Later(next) => Err(Worked::Idle { next: Some(next) }),
+        DueActor::Never => Err(Worked::Idle { next: None }),
         DueActor::Dial(_) => unreachable!(),
     }
 }
@@ -202,7 +206,8 @@ fn attempt<R: Wait>(
 
 // The act by which this is done.
 fn act_of(errand: Errand) -> Act
-    ensures { result ≡ spec.act_of errand }
+    ensures exact { result ≡ spec.act_of errand }
+    ensures plain { is_load result ≡ false }
 {
     match errand {
         Errand::Slot(slot) => Act::Work { slot },

@@ -1,7 +1,9 @@
 -- What a draft changes of a switch.
-use Rattle.std.specs.Prelude.{◌≡◌, ℕ, Option, None, Result, unwrap_or, OnOk, [], length}
+use Rattle.std.specs.Prelude.{◌≡◌, ℕ, Option, None, option_map, Result, unwrap_or, OnOk, [], length}
+use Rattle.std.specs.Arc.{arc_value}
 use Rattle.fs_bridge.specs.Bridges.{BridgeRows}
 use Rattle.fs_chan.specs.declared.chan.Chan.{Chan}
+use Rattle.fs_doc.specs.Reading.{Configuration}
 use Rattle.fs_seats.specs.Sheets.{written}
 use Rattle.fs_seats.specs.Overlays.{taken_back}
 use Rattle.fs_state.specs.declared.delta.Delta.{Delta}
@@ -14,6 +16,8 @@ use Rattle.fs_state.specs.Switch.{Switch, chan_at, with_chan}
 -- the switch with all of these changes
 abbrev pub after : Switch → Delta → Switch
 after s d = record s {
+  contexts = unwrap_or (option_map (λ config. (arc_value {X = Configuration} config).contexts) d.in_force) s.contexts;
+  reloads = d.reloads;
   globals = unwrap_or d.globals s.globals;
   channels = written s.channels d.channels;
   bridges = unwrap_or d.bridges s.bridges;
@@ -32,9 +36,12 @@ after s d = record s {
   notices = d.notices;
 }
 
--- a change of nothing, whatever was drawn and whenever, and whether or not the switch came to its end
+-- a change of nothing, whatever was drawn and whenever, however often contexts came into force, and whether or not the switch came to
+-- its end
 abbrev pub IsBlank : Delta → Type 0
 IsBlank d = d ≡ record {
+  in_force = None;
+  reloads = d.reloads;
   globals = None;
   channels = [];
   bridges = None;
@@ -57,6 +64,7 @@ IsBlank d = d ≡ record {
 -- what a change still has once it was made: what happens, and what is given
 abbrev pub rest_of : Delta → Delta
 rest_of d = record d {
+  in_force = None;
   globals = None;
   channels = [];
   bridges = None;

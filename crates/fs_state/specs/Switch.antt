@@ -35,8 +35,9 @@ use Rattle.fs_state.specs.Outboxes.{Frames, texts_of, no_outboxes, outbox_at, wi
 pub record Switch : Type 0 where
   -- what never changes
   pub settings : Settings
-  -- the contexts in force
+  -- the contexts in force, and how often others came into force
   pub contexts : List Context
+  pub reloads : ℕ
   -- what is there
   pub globals : Variables
   pub channels : List (Option Chan)
@@ -72,6 +73,7 @@ abbrev pub empty : Configuration → Switch
 empty config = record {
   settings = config.settings;
   contexts = config.contexts;
+  reloads = 0;
   globals = config.globals;
   channels = no_seats (config.settings.max_sessions + 1);
   bridges = no_bridges;
@@ -110,6 +112,12 @@ with_next_identifier s = record s { drawn = numbers.with_identifier s.drawn }
 -- the identifier that was drawn last
 abbrev pub identifier_of : Switch → Text
 identifier_of s = core_id.uuid s.settings.core_uuid s.drawn.identifiers
+
+-- ---- what is in force
+
+-- the contexts of another configuration come into force
+abbrev pub reloaded : Configuration → Switch → Switch
+reloaded config s = record s { contexts = config.contexts; reloads = s.reloads + 1 }
 
 -- ---- what is there
 
@@ -227,11 +235,19 @@ with_conn number conn s = record s { conns = with_row s.conns number conn }
 abbrev pub with_new_conn : Conn → Switch → Switch
 with_new_conn conn s = record s { drawn = numbers.with_conn s.drawn; conns = with_new_row s.conns (numbers.with_conn s.drawn).conns conn }
 
--- the largest entry, of 65,600, would pass the limit
-abbrev pub is_full : Switch → Bool
-is_full s = nat_lt s.settings.journal_limit (s.cost + 65600)
+-- an entry of this cost would pass the limit
+abbrev pub passes_limit : ℕ → Switch → Bool
+passes_limit cost s = nat_lt s.settings.journal_limit (s.cost + cost)
 
--- the largest entry passes neither this limit nor 64 bits
+-- the largest entry but that of a load, of 65,600, would pass the limit
+abbrev pub is_full : Switch → Bool
+is_full s = passes_limit 65600 s
+
+-- the largest entry of a load, of 1,048,641, would pass it
+abbrev pub is_full_for_load : Switch → Bool
+is_full_for_load s = passes_limit 1048641 s
+
+-- the largest entry but that of a load passes neither this limit nor 64 bits
 abbrev pub HasRoomWithin : ℕ → Switch → Type 0
 HasRoomWithin limit s = s.cost + 65600 ≤ min limit (2 ^ 64 - 1)
 

@@ -57,6 +57,8 @@ fn unchanged(alloc: Global) -> Delta
     ensures { IsBlank result }
 {
     Delta {
+        in_force: None,
+        reloads: 0,
         globals: None,
         channels: Sheet::new(alloc),
         bridges: None,

@@ -8,10 +8,12 @@ use crate::losses::Losses;
 use crate::posts::Posts;
 use fs_bridge::Bridges;
 use fs_chan::Chan;
+use fs_doc::Config;
 use fs_event::EventText;
 use fs_orig::Orig;
 use fs_seats::{Boxed, Numbered, Sheet};
 use fs_vars::Vars;
+use std::sync::Arc;
 
 /// What an entry does to the frames that wait.
 #[derive(Clone, Copy, Debug, PartialEq, Eq)]
@@ -26,6 +28,10 @@ pub enum OutboxChange {
 
 /// What an entry changes. A contract sees its fields.
 pub struct Delta {
+    /// The configuration whose contexts come into force, if one does.
+    pub in_force: Option<Arc<Config>>,
+    /// How often contexts came into force.
+    pub reloads: u64,
     /// The globals, where they change.
     pub globals: Option<Boxed<Vars>>,
     /// The channels that change, by their slots.
@@ -89,6 +95,8 @@ impl Delta {
 impl Drop for Delta {
     fn drop(self) {
         let Delta {
+            in_force: _in_force,
+            reloads: _reloads,
             globals: _globals,
             channels: _channels,
             bridges: _bridges,

@@ -1,5 +1,6 @@
 //! A draft: a switch that is kept, and what is to change of it.
 ghost use Rattle.std.specs.Prelude.{◌≡◌, ◌≢◌, ◌≤◌, true, Option, Some, None, length, slice_get, MatchOption, IfOk};
+ghost use Rattle.std.specs.Arc.{arc_value};
 ghost use Rattle.std.specs.Option.{option_copied};
 ghost use Rattle.fs_seats.specs.Overlays.{over};
 ghost use Rattle.fs_seats.specs.Seats.{IsEmptyFrom};
@@ -24,13 +25,14 @@ use crate::losses::Losses;
 use crate::switch::Core;
 use fs_bridge::{BridgeKind, Bridges, Row};
 use fs_chan::Chan;
-use fs_doc::Settings;
+use fs_doc::{Config, Settings};
 use fs_orig::Orig;
 use fs_seats::{Boxed, Numbered, Overlay, Rows, Table};
 use fs_text::{Memory, Txt};
 use fs_vars::Vars;
 use std::alloc::Global;
 use std::marker::Model;
+use std::sync::Arc;
 
 /// A switch that is kept, and what is to change of it. A contract sees both.
 ///
@@ -60,6 +62,7 @@ impl<'a> Draft<'a> {
         ensures outbox { result.delta.outbox ≡ change.Unchanged }
     {
         let mut delta = blank.into_delta();
+        delta.reloads = core.reloads;
         delta.drawn = core.drawn;
         delta.moment = core.moment;
         delta.stopping = core.stopping;
@@ -131,6 +134,14 @@ impl<'a> Draft<'a> {
     {
         let core = self.core;
         core.cost
+    }
+
+    /// Whether an entry of this cost would pass the limit of the journal.
+    pub fn passes_limit(&self, cost: u64) -> bool
+        ensures { result ≡ spec.passes_limit cost (drafted self.now) }
+    {
+        let core = self.core;
+        core.passes_limit(cost)
     }
 
     /// The moment of the entry in hand, in microseconds.
@@ -217,6 +228,20 @@ impl<'a> Draft<'a> {
         let core = self.core;
         let core_id = core.settings().core_uuid;
         core_id.uuid(core.alloc, self.delta.drawn.identifiers)
+    }
+
+    // ---- what is in force
+
+    /// The contexts of another configuration come into force.
+    pub fn reload(&mut self, config: Arc<Config>) -> Result<(), Memory>
+        ensures { Brings result self.old self.new (spec.reloaded (arc_value config) (drafted self.old)) }
+    {
+        let Some(reloads) = self.delta.reloads.checked_add(1) else {
+            return Err(Memory);
+        };
+        self.delta.reloads = reloads;
+        self.delta.in_force = Some(config);
+        Ok(())
     }
 
     // ---- globals

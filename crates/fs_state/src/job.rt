@@ -52,6 +52,8 @@ impl Drop for Background {
 pub enum JobWork {
     /// The command that it was begun with is to be run, at once. Only a job in the background runs one.
     Run,
+    /// A load of the file that the switch was configured by is to be noted.
+    Load,
     /// A moment, in microseconds.
     Sleep {
         until: u64,
@@ -96,6 +98,7 @@ impl JobWork {
     {
         Ok(match self {
             JobWork::Run => JobWork::Run,
+            JobWork::Load => JobWork::Load,
             JobWork::Sleep { until } => JobWork::Sleep { until: *until },
             JobWork::Originate {
                 orig,

@@ -1,6 +1,6 @@
 //! The state of a switch between two entries.
 ghost use Rattle.std.specs.Arc.{arc_value};
-ghost use Rattle.std.specs.Prelude.{◌≡◌, ◌≤◌, ◌+◌, false, length, IfOk, OnOk, OnErr, unwrap_or};
+ghost use Rattle.std.specs.Prelude.{◌≡◌, ◌≤◌, ◌+◌, ◌-◌, ◌^◌, min, false, length, IfOk, OnOk, OnErr, unwrap_or};
 ghost use Rattle.std.specs.Option.{option_copied};
 ghost use Rattle.fs_text.specs.CoreId as core_id;
 ghost use Rattle.fs_seats.specs.Seats.{no_seats, IsEmptyFrom};
@@ -34,14 +34,20 @@ use std::sync::Arc;
 const ORIGS: usize = 1_280;
 /// How many jobs there may be.
 const JOBS: usize = 1_024;
-/// What the largest entry costs.
+/// What the largest entry costs but that of a load.
 const LARGEST_COST: u64 = 65_600;
+/// What the largest entry of a load costs.
+const LARGEST_LOAD: u64 = 1_048_641;
 
 /// The state of a switch between two entries. A contract sees it as the record of what is there, and beside that the
 /// ring of the events that wait for connections.
 pub struct Core {
     pub(crate) alloc: Global,
+    // What it started from: its settings never change.
     pub(crate) config: Arc<Config>,
+    // What has the contexts in force, and how often others came into force.
+    pub(crate) in_force: Arc<Config>,
+    pub(crate) reloads: u64,
     // The identifier of the switch, which each event tells.
     pub(crate) uuid: Txt,
     pub(crate) globals: Boxed<Vars>,
@@ -65,6 +71,8 @@ impl Drop for Core {
         let Core {
             alloc: _alloc,
             config: _config,
+            in_force: _in_force,
+            reloads: _reloads,
             uuid: _uuid,
             globals: _globals,
             channels: _channels,
@@ -96,7 +104,8 @@ impl Model for Core {
     ghost view = { λ c. record {
       switch = record {
         settings = (arc_value c.config).settings;
-        contexts = (arc_value c.config).contexts;
+        contexts = (arc_value c.in_force).contexts;
+        reloads = c.reloads;
         globals = c.globals;
         channels = c.channels;
         bridges = c.bridges;
@@ -135,6 +144,7 @@ impl Core {
         let settings = config.settings();
         let slots = usize::from(settings.max_sessions) + 1;
         let conns = usize::from(settings.max_connections);
+        let in_force = config.clone()?;
         let counts = Counts::new(alloc)?;
         let uuid = settings.core_uuid.uuid(alloc, 0)?;
         let globals = Boxed::of(alloc, config.globals().copy()?)?;
@@ -143,6 +153,8 @@ impl Core {
         Ok(Core {
             alloc,
             config,
+            in_force,
+            reloads: 0,
             uuid,
             globals,
             channels,
@@ -219,6 +231,20 @@ impl Core {
         self.config.settings()
     }
 
+    /// The configuration of which the contexts are in force. Its settings and globals are those of its document.
+    pub fn in_force(&self) -> &Arc<Config>
+        ensures { (arc_value result.now).contexts ≡ self.now.switch.contexts }
+    {
+        &self.in_force
+    }
+
+    /// How often other contexts came into force.
+    pub fn reloads(&self) -> u64
+        ensures { result ≡ self.now.switch.reloads }
+    {
+        self.reloads
+    }
+
     /// The identifier of the switch, as events tell it.
     pub(crate) fn uuid(&self) -> &[u8]
         ensures { result.now ≡ core_id.uuid self.now.switch.settings.core_uuid 0 }
@@ -240,13 +266,30 @@ impl Core {
         self.cost
     }
 
-    /// Whether its journal is full: the largest entry, of 65,600, would pass the limit.
+    /// Whether an entry of this cost would pass the limit of its journal.
+    pub(crate) fn passes_limit(&self, cost: u64) -> bool
+        ensures exact { result ≡ spec.passes_limit cost self.now.switch }
+        ensures free { result ≡ false
+            → self.now.switch.cost + cost ≤ min self.now.switch.settings.journal_limit (2 ^ 64 - 1) }
+    {
+        let limit = self.settings().journal_limit;
+        limit < cost || self.cost > limit - cost
+    }
+
+    /// Whether its journal is full: the largest entry but that of a load, of 65,600, would pass the limit.
     pub fn is_full(&self) -> bool
         ensures exact { result ≡ spec.is_full self.now.switch }
         ensures free { result ≡ false → spec.HasRoomWithin self.now.switch.settings.journal_limit self.now.switch }
     {
-        let limit = self.settings().journal_limit;
-        limit < LARGEST_COST || self.cost > limit - LARGEST_COST
+        self.passes_limit(LARGEST_COST)
+    }
+
+    /// Whether its journal is full for a load: the largest entry of one, of 1,048,641, would pass the limit.
+    pub fn is_full_for_load(&self) -> bool
+        ensures exact { result ≡ spec.is_full_for_load self.now.switch }
+        ensures free { result ≡ false → spec.HasRoomWithin self.now.switch.settings.journal_limit self.now.switch }
+    {
+        self.passes_limit(LARGEST_LOAD)
     }
 
     /// The place of the entry by which it came to its end, once one did.
@@ -391,6 +434,8 @@ impl Core {
         ensures ring { AreNoMore self.old.ring self.new.ring }
         ensures left { delta.new ≡ rest_of delta.old }
     {
+        put_in(&mut self.in_force, delta.in_force.take());
+        self.reloads = delta.reloads;
         put_in(&mut self.globals, delta.globals.take());
         delta.channels.move_into(&mut self.channels);
         put_in(&mut self.bridges, delta.bridges.take());

@@ -6,7 +6,7 @@ use Rattle.std.proofs.Math.Seq.{get_or-append_seam}
 use Rattle.std.proofs.lemmas.List.Elements.{All-get_or}
 use Rattle.fs_ports.specs.Counts.{raised}
 use Rattle.fs_ports.specs.Ports.{Input, Output}
-use Rattle.fs_ports.specs.Loads.{LoadCounts, Tells}
+use Rattle.fs_ports.specs.Loads.{LoadCounts, Tells, next}
 use Rattle.fs_ports.specs.declared.files.Load.{Load as File}
 use Rattle.fs_ports.specs.declared.files.Load.TheVariants.{Got, Absent, Failed}
 use Rattle.fs_doc.specs.Reading.{Configuration, config_of}
@@ -14,12 +14,15 @@ use Rattle.fs_doc.specs.declared.fault.DocFault.{DocFault}
 use Rattle.fs_plan.specs.Building.{NumberedPattern, IsNoPattern, IsPlanRefusal}
 use Rattle.fs_plan.specs.declared.fault.PlanFault.{PlanFault}
 use Rattle.fs_plan.specs.declared.fault.PlanFault.TheVariants.{PatternRefused, PatternTooLarge, Memory}
+use Rattle.fs_machine.specs.declared.note.LoadNote.{LoadNote}
 use Rattle.fs_conn.specs.Turns.{HasRead}
+use Rattle.fs_conn.specs.Filed.{FileView}
 use Rattle.fs_top.specs.Told.{Told, Asked, file_asked, told_words, told_read, told_asked}
 use Rattle.fs_top.specs.Runs.{CarriesOut, completes, fails_to_write, lacks_memory, fails_for_memory, Completes, BreaksForMemory}
 use Rattle.fs_top.specs.Doors.{Rose}
 use Rattle.fs_top.specs.Serving.{IsReadAs, IsNoDocument, IsUnread, IsServable, NoneFailed, IsStatus, IsGoodStatus}
 use Rattle.fs_top.specs.Runs.{RefusesPattern, IsPlayed, Gives, IsTold, IsBuilt, Ran, HasReadings, IsGiven, NoneRose, DoesAll}
+use Rattle.fs_top.specs.Runs.{Library, view_in, view_for, name_of, Reloads, reloader_read, reloader_file, reloader_words}
 use Rattle.fs_top.proofs.CauseLaws.{failed_read}
 
 -- what holds of each element holds of the one behind a front
@@ -50,13 +53,23 @@ read_once bytes c d one other = ap given (sym other ∙ one)
     given (Ok e) = e
     given (Err fault) = c
 
-built_none : (bytes : List ℕ) (c : Configuration) (built : Option PlanFault) (sizes0 sizes1 : ℕ) → config_of bytes ≡ Ok c → HasReadings c →
-    sizes1 ≢ raised sizes0 →
-    IsBuilt (Got bytes) built sizes0 sizes1 → built ≡ None
-built_none bytes c None sizes0 sizes1 reads readings rose told = refl
-built_none bytes c (Some fault) sizes0 sizes1 reads readings rose told =
-    absurd (refuses_none c fault sizes0 sizes1 readings rose
-    (subst (λ (d : Configuration). RefusesPattern d.contexts fault sizes0 sizes1) (read_once bytes c told.0 reads told.1) told.2))
+-- nothing was loaded again where one was refused
+refused_alone : (asked : Asked) (bytes : List ℕ) (c : Configuration) (fault : PlanFault) (status : ℕ) (store view : FileView)
+    (notes : List LoadNote) → config_of bytes ≡ Ok c → Reloads (reloader_file asked (Got bytes) (Some fault)) status store view notes →
+    view ≡ store
+refused_alone asked bytes c fault status store view notes reads reloaded =
+    let alone : Reloads (reloader_read asked (Ok c) (Some fault)) status store view notes =
+    subst (λ (r : Result Configuration DocFault). Reloads (reloader_read asked r (Some fault)) status store view notes) reads reloaded in
+    alone.1
+
+built_none : (asked : Asked) (bytes : List ℕ) (c : Configuration) (built : Option PlanFault) (sizes0 status : ℕ) (store view : FileView)
+    (notes : List LoadNote) → config_of bytes ≡ Ok c → HasReadings c → view.sizes ≢ raised sizes0 →
+    IsBuilt (Got bytes) built sizes0 store.sizes → Reloads (reloader_file asked (Got bytes) built) status store view notes → built ≡ None
+built_none asked bytes c None sizes0 status store view notes reads readings rose told reloaded = refl
+built_none asked bytes c (Some fault) sizes0 status store view notes reads readings rose told reloaded =
+    let same = refused_alone asked bytes c fault status store view notes reads reloaded in
+    absurd (refuses_none c fault sizes0 store.sizes readings (λ e. rose (ap (λ (v : FileView). v.sizes) same ∙ e))
+    (subst (λ (d : Configuration). RefusesPattern d.contexts fault sizes0 store.sizes) (read_once bytes c told.0 reads told.1) told.2))
 
 -- no read failed
 read_whole : (asked : Option Asked) (in0 in1 from to : Input) (input : List ℕ) (read_failed : Bool) → in1.faults ≢ raised in0.faults →
@@ -87,26 +100,39 @@ written_whole told in1 out0 out1 line status rose (fails_for_memory h) = absurd 
 
 -- what is told then
 told_given : (asked : Option Asked) (of : Asked) (file : File) (bytes : List ℕ) (c : Configuration) (built : Option PlanFault)
-    (input : List ℕ) (read_failed : Bool) →
+    (notes : List LoadNote) (input : List ℕ) (read_failed : Bool) →
     asked ≡ Some of → file ≡ Got bytes → config_of bytes ≡ Ok c → built ≡ None → read_failed ≡ false →
-    told_words asked file built input read_failed ≡ told_asked of c input false
-told_given asked of file bytes c built input read_failed is_asked is_file reads is_built is_whole =
-    rw (is_asked, is_file, is_built, is_whole) (ap (λ (read : Result Configuration DocFault). told_read of read None input false) reads)
+    told_words asked file built notes input read_failed ≡ told_asked of c notes input false
+told_given asked of file bytes c built notes input read_failed is_asked is_file reads is_built is_whole =
+    rw (is_asked, is_file, is_built, is_whole) (ap (λ (read : Result Configuration DocFault). told_read of read None notes input false) reads)
+
+-- what was loaded again, where the words ask for that
+reloaded_given : (asked : Option Asked) (of : Asked) (file : File) (bytes : List ℕ) (built : Option PlanFault) (status : ℕ) (store : FileView)
+    (files : Library) (notes : List LoadNote) → asked ≡ Some of → file ≡ Got bytes →
+    Reloads (reloader_words asked file built) status store (view_for asked files) notes →
+    Reloads (reloader_file of (Got bytes) built) status store (view_in files (name_of of)) notes
+reloaded_given asked of file bytes built status store files notes is_asked is_file reloaded =
+    let asks : Reloads (reloader_words (Some of) file built) status store (view_for (Some of) files) notes =
+    subst (λ (a : Option Asked). Reloads (reloader_words a file built) status store (view_for a files) notes) is_asked reloaded in
+    subst (λ (f : File). Reloads (reloader_file of f built) status store (view_in files (name_of of)) notes) is_file asks
 
 -- all was done, or memory was wanting
-pub complete : (asked : Option Asked) (next_load : List ℕ → Option File) (counts0 counts1 : LoadCounts) (sizes0 sizes1 : ℕ)
-    (in0 in1 : Input) (out0 out1 err0 err1 : Output) (status : ℕ) →
-    Ran asked next_load counts0 counts1 sizes0 sizes1 in0 in1 out0 out1 err0 err1 status → (of : Asked) (c : Configuration) →
-    IsGiven asked next_load of c →
-    NoneRose sizes0 sizes1 in0 in1 out0 out1 → DoesAll of c in0 in1 out0 out1 err0 err1 status
-complete asked next_load counts0 counts1 sizes0 sizes1 in0 in1 out0 out1 err0 err1 status ran of c given rose =
-    let gives : Gives next_load (file_asked of) ran.file = rw given.is_asked at ran.file_told in
-    let file : ran.file ≡ Got given.bytes = file_is next_load (file_asked of) ran.file given.bytes given.told gives in
+pub complete : (asked : Option Asked) (files0 files1 : Library) (in0 in1 : Input) (out0 out1 err0 err1 : Output) (status : ℕ) →
+    Ran asked files0 files1 in0 in1 out0 out1 err0 err1 status → (of : Asked) (c : Configuration) →
+    IsGiven asked (next files0.loads) of c →
+    NoneRose files0.sizes files1.sizes in0 in1 out0 out1 → DoesAll of c in0 in1 out0 out1 err0 err1 status
+complete asked files0 files1 in0 in1 out0 out1 err0 err1 status ran of c given rose =
+    let gives : Gives (next files0.loads) (file_asked of) ran.file = rw given.is_asked at ran.file_told in
+    let file : ran.file ≡ Got given.bytes = file_is (next files0.loads) (file_asked of) ran.file given.bytes given.told gives in
+    let reloaded =
+    reloaded_given asked of ran.file given.bytes ran.built status ran.store files1 ran.notes given.is_asked file ran.reloaded in
     let built : ran.built ≡ None =
-    built_none given.bytes c ran.built sizes0 sizes1 given.reads given.readings rose.sizes (rw file at ran.built_told) in
+    built_none of given.bytes c ran.built files0.sizes status ran.store (view_in files1 (name_of of)) ran.notes given.reads given.readings
+    rose.sizes (rw file at ran.built_told) reloaded in
     let whole : ran.read_failed ≡ false =
     read_whole asked in0 in1 ran.from ran.to ran.input ran.read_failed rose.reads ran.is_played ran.has_read in
-    let told = told_given asked of ran.file given.bytes c ran.built ran.input ran.read_failed given.is_asked file given.reads built whole in
+    let told =
+    told_given asked of ran.file given.bytes c ran.built ran.notes ran.input ran.read_failed given.is_asked file given.reads built whole in
     record {
       from = ran.from;
       to = ran.to;
@@ -115,8 +141,9 @@ complete asked next_load counts0 counts1 sizes0 sizes1 in0 in1 out0 out1 err0 er
       sent = ran.sent;
       is_played = rw given.is_asked at ran.is_played;
       has_read = rw whole at ran.has_read;
+      notes = ran.notes;
       does =
-          written_whole (told_asked of c ran.input false) ran.to out0 out1 ran.line status rose.writes
+          written_whole (told_asked of c ran.notes ran.input false) ran.to out0 out1 ran.line status rose.writes
           (subst (λ (t : Told). CarriesOut t ran.to out0 out1 ran.line status) told ran.does);
       said = ran.said;
     }

@@ -313,4 +313,4 @@ keeps_joined {L} input output may may1 may2 config start seen1 seen2 seen' mine1
 
 -- what a lane may enter that never halts the switch may be entered
 pub enters_less : (may : ℕ → Type 0) (halts : Type 0) (own : Option ℕ) (entry : Entry) → Enters may ⊥ own entry → MayEnter may halts entry
-enters_less may halts own entry entered = (entered.0.0, λ halt. absurd (entered.0.1 halt))
+enters_less may halts own entry entered = (entered.0.0, λ halt. absurd (entered.0.1 halt), entered.0.2)

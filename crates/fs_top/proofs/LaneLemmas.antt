@@ -23,8 +23,10 @@ use Rattle.fs_book.proofs.Opening.{opens_up, owns_up}
 use Rattle.fs_book.proofs.Quiets.{quiet_places, quiet_owned}
 use Rattle.fs_machine.specs.declared.entry.Entry.{Entry}
 use Rattle.fs_machine.specs.declared.entry.Act.{Act}
-use Rattle.fs_machine.specs.declared.entry.Act.TheVariants.{Arrive, Command, Take, Close, Dialed, Work, Job, Halt}
+use Rattle.fs_machine.specs.declared.entry.Act.TheVariants.{Arrive, Command, Take, Close, Dialed, Work, Job, Loaded, Halt}
+use Rattle.fs_machine.specs.declared.note.LoadNote.{LoadNote}
 use Rattle.fs_machine.specs.Concerns.{actor_of}
+use Rattle.fs_machine.specs.Loading.{IsBuiltAsNoted}
 use Rattle.fs_machine.specs.declared.reply.Reply.{Reply}
 use Rattle.fs_machine.specs.Turned.{IsJournal, Answers, opens, names, comes_by, comes_after}
 use Rattle.fs_conn.specs.declared.end.End.{End}
@@ -34,13 +36,14 @@ use Rattle.fs_conn.proofs.ToldLemmas.{told_up}
 use Rattle.fs_session.specs.declared.actor.Actor.{Actor}
 use Rattle.fs_session.specs.declared.actor.Actor.TheVariants.{Slot, Jobs}
 use Rattle.fs_session.specs.declared.worked.Worked.{Worked}
-use Rattle.fs_session.specs.declared.worked.Worked.TheVariants.{Did, Idle, Talk, Stopped, Refused}
-use Rattle.fs_session.specs.Working.{Works, Stays, IsTurnOf}
+use Rattle.fs_session.specs.declared.worked.Worked.TheVariants.{Did, Idle, Talk, Load, Stopped, Refused}
+use Rattle.fs_session.specs.Loading.{Store, LoadsOnce}
+use Rattle.fs_session.specs.Working.{Works, Stays, Gained, IsTurnOf}
 use Rattle.fs_state.specs.Switch.{Switch, empty}
 use Rattle.fs_machine.specs.Laws.{state_after}
 use Rattle.fs_machine.proofs.RunLemmas.{is_run_more}
 use Rattle.fs_top.specs.declared.conns.Conn.{Conn}
-use Rattle.fs_top.specs.Lanes.{IsHeld, IsServed, AreAll, AreOnce, AreAllowed, Enters, Keeps, number_of}
+use Rattle.fs_top.specs.Lanes.{IsHeld, IsServed, AreAll, AreOnce, AreAllowed, IsNotedWell, Enters, Keeps, number_of}
 
 -- a place of two lists together stands in one of them
 pub times_either : (p : ℕ) (front back : List ℕ) → 0 < times p (front ++ back) → (0 < times p front) ⊎ (0 < times p back)
@@ -227,12 +230,25 @@ opens_none config (Close c how) log conn n named opened = absurd (cc opened)
 opens_none config (Dialed slot linked) log conn n named opened = absurd (cc named)
 opens_none config (Work slot) log conn n named opened = absurd (cc named)
 opens_none config (Job number) log conn n named opened = absurd (cc named)
+opens_none config (Loaded number note) log conn n named opened = absurd (cc named)
 opens_none config Halt log conn n named opened = absurd (cc named)
 
 -- an entry that names a connection opens none
 named_opens_none : (config : Configuration) (log : List Entry) (entry : Entry) (conn n : ℕ) → names entry ≡ Some conn →
     opens config log entry ≢ Some n
 named_opens_none config log entry conn n named opened = opens_none config entry.act log conn n named opened
+
+-- an act of a connection notes no load
+named_noted : (conn : ℕ) (done : Act) → actor_of done ≡ Some conn → IsNotedWell done
+named_noted conn Arrive named = tt
+named_noted conn (Command c block) named = tt
+named_noted conn (Take c) named = tt
+named_noted conn (Close c how) named = tt
+named_noted conn (Dialed slot linked) named = tt
+named_noted conn (Work slot) named = tt
+named_noted conn (Job number) named = tt
+named_noted conn (Loaded number note) named = absurd (none-some conn named)
+named_noted conn Halt named = tt
 
 -- what a served link leaves, whose connection came by an entry of the pass
 module _ (may : ℕ → Type 0) (halts : Type 0) (own : Option ℕ) (config : Configuration) (start : Option Configuration)
@@ -329,7 +345,7 @@ module _ (may : ℕ → Type 0) (halts : Type 0) (own : Option ℕ) (config : Co
         | inr made ↦
             let same : made.0 ≡ entry = same_Some made.0 entry (sym made.1 ∙ at) in
             subst (λ (e : Entry). Enters may halts own e) same (
-              (made.3, λ halted. absurd (none-some conn (sym (ap actor_of halted) ∙ made.2))),
+              (made.3, λ halted. absurd (none-some conn (sym (ap actor_of halted) ∙ made.2)), named_noted conn made.0.act made.2),
               λ slot linked dialed. absurd (none-some conn (sym (ap actor_of dialed) ∙ made.2)),
             )
       ]
@@ -534,10 +550,11 @@ run_behind config before seen' entry answer sees answers =
       run = is_run_more (empty config) before entry answers.before.run answers.defined;
     })
 
--- a turn names no connection and opens none, does not halt the switch, and tells of no dial
+-- A turn names no connection and opens none, does not halt the switch, and tells of no dial; what it notes of a load is so.
 pub record IsTurn (done : Act) : Type 0 where
   pub unnamed : actor_of done ≡ None
   pub running : done ≢ Halt
+  pub noted : IsNotedWell done
   pub undialed : (slot : ℕ) (linked : Bool) → done ≢ Dialed slot linked
   pub closed : (s : Switch) → comes_by done s ≡ false
 
@@ -546,6 +563,7 @@ turn_is (Slot slot) done is =
     subst IsTurn (sym is) (record {
       unnamed = refl;
       running = λ same. absurd (cc same);
+      noted = tt;
       undialed = λ other linked same. absurd (cc same);
       closed = λ s. refl;
     })
@@ -553,6 +571,17 @@ turn_is Jobs done is =
     subst IsTurn (sym is.1) (record {
       unnamed = refl;
       running = λ same. absurd (cc same);
+      noted = tt;
+      undialed = λ slot linked same. absurd (cc same);
+      closed = λ s. refl;
+    })
+
+load_is : (job : ℕ) (note : LoadNote) (done : Act) → done ≡ Loaded job note → IsBuiltAsNoted note → IsTurn done
+load_is job note done is built =
+    subst IsTurn (sym is) (record {
+      unnamed = refl;
+      running = λ same. absurd (cc same);
+      noted = built;
       undialed = λ slot linked same. absurd (cc same);
       closed = λ s. refl;
     })
@@ -566,7 +595,7 @@ turn_opens_none config log moment done n turn opened =
 turn_enters : (may : ℕ → Type 0) (halts : Type 0) (own : Option ℕ) (moment : ℕ) (done : Act) → may moment → IsTurn done →
     Enters may halts own (entry_at moment done)
 turn_enters may halts own moment done told turn =
-    ((told, λ halted. absurd (turn.running halted)), λ slot linked dialed. absurd (turn.undialed slot linked dialed))
+    ((told, λ halted. absurd (turn.running halted), turn.noted), λ slot linked dialed. absurd (turn.undialed slot linked dialed))
 
 -- a lane that worked keeps what it kept
 module _ {L : Type 0} (input : L → Input) (output : L → Output) (may : ℕ → Type 0) (halts : Type 0) (own : Option ℕ) (config : Configuration)
@@ -580,10 +609,9 @@ module _ {L : Type 0} (input : L → Input) (output : L → Output) (may : ℕ �
       keeps_looked input output (Enters may halts own) config start seen seen' mine mine' met met' conns is stays.front stays.same met_is below
       owned stays.run keeps
 
-  pub keeps_worked : (who : Actor) (now : ℕ) (worked : Worked) → may now → Works config seen mine seen' mine' who now worked →
-      Keeps input output (Enters may halts own) config seen' (mine' ∷ met') conns
-  keeps_worked who now (Did place wakes) told gained =
-      let turn = turn_is who gained.act gained.is in
+  keeps_gained : (IsIt : Act → Type 0) (now place : ℕ) (gained : Gained config seen mine seen' mine' IsIt now place) → may now →
+      IsTurn gained.act → Keeps input output (Enters may halts own) config seen' (mine' ∷ met') conns
+  keeps_gained IsIt now place gained told turn =
       let entry = entry_at now gained.act in
       subst (λ (ms : List (List ℕ)). Keeps input output (Enters may halts own) config seen' (mine' ∷ ms) conns) (sym met_is)
       (keeps_entered input output (Enters may halts own) config start seen gained.before seen' mine mine' met conns place entry is
@@ -591,8 +619,28 @@ module _ {L : Type 0} (input : L → Input) (output : L → Output) (may : ℕ �
       (λ n. turn_opens_none config gained.before now gained.act n turn) (turn_enters may halts own now gained.act told turn)
       (run_behind config gained.before seen' entry gained.reply gained.sees gained.answers) below
       (subst (λ (ms : List (List ℕ)). Owned opens names start (mine' ∷ ms) seen') met_is owned) keeps)
+
+  pub keeps_worked : (who : Actor) (now : ℕ) (worked : Worked) → may now → Works config seen mine seen' mine' who now worked →
+      Keeps input output (Enters may halts own) config seen' (mine' ∷ met') conns
+  keeps_worked who now (Did place wakes) told gained =
+      keeps_gained (IsTurnOf who) now place gained told (turn_is who gained.act gained.is)
   keeps_worked who now (Idle None) told works = keeps_stays works.stays
   keeps_worked who now (Idle (Some next)) told works = keeps_stays works.stays
   keeps_worked who now (Talk target) told works = keeps_stays works.stands.stays
+  keeps_worked who now (Load job) told works = keeps_stays works.stays
   keeps_worked who now Stopped told works = keeps_stays works.stays
   keeps_worked who now (Refused why) told works = keeps_stays works.stays
+
+  -- so does one that noted a load
+  pub keeps_loaded : (job now : ℕ) (old new : Store) (worked : Worked) → may now →
+      LoadsOnce config seen mine seen' mine' job old new now worked →
+      Keeps input output (Enters may halts own) config seen' (mine' ∷ met') conns
+  keeps_loaded job now old new (Did place wakes) told noted =
+      keeps_gained (λ done. done ≡ Loaded job noted.note) now place noted.entered told
+      (load_is job noted.note noted.entered.act noted.entered.is noted.loaded.built)
+  keeps_loaded job now old new (Idle None) told loads = keeps_stays loads.0.stays
+  keeps_loaded job now old new (Idle (Some next)) told loads = absurd loads
+  keeps_loaded job now old new (Talk target) told loads = absurd loads
+  keeps_loaded job now old new (Load other) told loads = absurd loads
+  keeps_loaded job now old new Stopped told loads = absurd loads
+  keeps_loaded job now old new (Refused why) told loads = keeps_stays loads.0.stays

@@ -6,7 +6,7 @@ use Rattle.std.specs.Option.{option_map}
 use Rattle.fs_ports.specs.Counts.{raised}
 use Rattle.fs_ports.specs.Ports.{Input, Output, Writes, Stopped, SendDid}
 use Rattle.fs_ports.specs.declared.send.Sent.{Sent}
-use Rattle.fs_ports.specs.Loads.{LoadCounts, Tells, Counted}
+use Rattle.fs_ports.specs.Loads.{LoadCounts, Tells, Counted, MovesOn, next}
 use Rattle.fs_ports.specs.declared.files.Load.{Load as File}
 use Rattle.fs_ports.specs.declared.files.Load.TheVariants.{Got, Absent, Failed}
 use Rattle.fs_ports.proofs.Sides.{reads_nothing, writes_nothing, stopped_sooner}
@@ -21,20 +21,26 @@ use Rattle.fs_plan.specs.declared.fault.PlanFault.TheVariants.{PatternRefused, P
 use Rattle.fs_state.specs.Counts.{Tallies}
 use Rattle.fs_state.specs.Switch.{empty}
 use Rattle.fs_machine.specs.declared.entry.Entry.{Entry}
+use Rattle.fs_machine.specs.declared.note.LoadNote.{LoadNote}
 use Rattle.fs_machine.specs.Runs.{run_from}
 use Rattle.fs_machine.specs.Frames.{handed_from}
 use Rattle.fs_conn.specs.declared.end.End.{End}
 use Rattle.fs_conn.specs.declared.end.End.TheVariants as ends
 use Rattle.fs_conn.specs.Play.{switch_of, bytes_handed, played}
+use Rattle.fs_conn.specs.Filed.{FileView, file_view}
+use Rattle.fs_conn.specs.Loads.{HasLoaded, HasLoadedOrBegun, LoadsBy}
 use Rattle.fs_conn.specs.Turns.{HasRead, Plays, Finishes, Breaks, all_written, then_failed, failed_before}
 use Rattle.fs_conn.proofs.LawLemmas.{config_played, bytes_begin}
+use Rattle.fs_conn.proofs.NoteLemmas.{loaded_none}
 use Rattle.fs_top.specs.Counted.{counts_text}
 use Rattle.fs_top.specs.Told.{Told, Asked, Check, Hunt, Play, Load, file_asked, told_words, told_file, told_read, told_built, told_asked}
 use Rattle.fs_top.specs.Told.{told_play, told_calls, counts_printed, told_text, refused, is_eof, line_of_end, status_of_end, usage_line, cannot_read_line, fault_line}
 use Rattle.fs_top.specs.Told.{pattern_line}
 use Rattle.fs_top.specs.Runs.{line_of_outcome, status_of_outcome, PlaysTo, CarriesOut, completes, fails_to_write, lacks_memory}
 use Rattle.fs_top.specs.Runs.{fails_for_memory, CarriesOutAs, IsPlayed, Loads, Gives, LoadedAs, Answers, IsPlanBuiltOf, IsBuilt, OverConfig, OverBytes, is_memory, not_read}
-use Rattle.fs_top.specs.Runs.{not_built, Runs, RefusesPattern, Ran, LeavesAlone, RestsAs}
+use Rattle.fs_top.specs.Runs.{not_built, Runs, RefusesPattern, Ran, LeavesAlone, RestsAs, PlaysAnew, OverPlan, KeepsLoads}
+use Rattle.fs_top.specs.Runs.{Library, view_in, view_for, name_of, AreBehind, Reloader, Nobody, Player, Reloads, ReloadsAs}
+use Rattle.fs_top.specs.Runs.{reloader_of, reloader_read, reloader_file, reloader_words}
 use Rattle.fs_top.specs.declared.outcome.Outcome.{Outcome}
 use Rattle.fs_top.specs.declared.outcome.Outcome.TheVariants.{Usage, CannotRead, BadDocument, BadPattern, Printed, Ended}
 
@@ -133,14 +139,15 @@ eof_is ends.Memory h = absurd (cc)
 eof_is (ends.Runaway count) h = absurd (cc)
 
 -- what is told of a play
-abbrev pub tells : Configuration → List ℕ → Bool → Told
-tells c input read_failed = told_play c (played c input read_failed)
+abbrev pub tells : Configuration → List LoadNote → List ℕ → Bool → Told
+tells c notes input read_failed = told_play c (played c input read_failed notes)
 
 -- the connection came to its end, or the play did before
-answers_finished : (c : Configuration) (file : List ℕ) (in0 in1 : Input) (out0 out1 : Output) (end : End) (journal : List Entry) →
-    Finishes c in0 out0 in1 out1 end journal →
-    Answers (tells c) (Some (Play file)) in0 in1 out0 out1 (Ended end)
-answers_finished c file in0 in1 out0 out1 end journal f = record {
+answers_finished : (c : Configuration) (notes : List LoadNote) (file : List ℕ) (in0 in1 : Input) (out0 out1 : Output) (end : End)
+    (journal : List Entry) →
+    Finishes c notes in0 out0 in1 out1 end journal →
+    Answers (tells c notes) (Some (Play file)) in0 in1 out0 out1 (Ended end)
+answers_finished c notes file in0 in1 out0 out1 end journal f = record {
   from = in0;
   to = in1;
   input = f.input;
@@ -154,42 +161,48 @@ answers_finished c file in0 in1 out0 out1 end journal f = record {
     status_is = sym (ap (λ (last : Option End). unwrap_or (option_map status_of_end last) 0) f.end_is);
     at_end = λ h. f.at_end (eof_is end (subst (λ (last : Option End). IsTrue (unwrap_or (option_map is_eof last) false)) f.end_is h));
   });
-  rests = used_rests (tells c f.input f.read_failed) in0 in1 out0 out1 (Ended end) refl;
+  rests = used_rests (tells c notes f.input f.read_failed) in0 in1 out0 out1 (Ended end) refl;
 }
 
 -- what a front of the journal handed out is a front of the output
-begins_output : (c : Configuration) (in0 in1 : Input) (journal : List Entry) (breaks : Breaks c in0 in1 journal) →
-    bytes_handed c (played c breaks.input breaks.read_failed).journal ≡ bytes_handed c journal
+begins_output : (c : Configuration) (notes : List LoadNote) (in0 in1 : Input) (journal : List Entry) (breaks : Breaks c notes in0 in1 journal) →
+    bytes_handed c (played c breaks.input breaks.read_failed notes).journal ≡ bytes_handed c journal
     ++ concat (handed_from 1 (run_from (empty c) journal) breaks.more)
-begins_output c in0 in1 journal breaks = bytes_begin c (played c breaks.input breaks.read_failed).journal journal breaks.more breaks.split
+begins_output c notes in0 in1 journal breaks =
+    bytes_begin c (played c breaks.input breaks.read_failed notes).journal journal breaks.more breaks.split
 
 -- where a write of it failed, a write of the output did
-stopped_output : (c : Configuration) (in0 in1 : Input) (out0 out1 : Output) (journal : List Entry) (breaks : Breaks c in0 in1 journal) →
+stopped_output : (c : Configuration) (notes : List LoadNote) (in0 in1 : Input) (out0 out1 : Output) (journal : List Entry)
+    (breaks : Breaks c notes in0 in1 journal) →
     Stopped out0 out1 (bytes_handed c journal) →
-    Stopped out0 out1 (bytes_handed c (played c breaks.input breaks.read_failed).journal)
-stopped_output c in0 in1 out0 out1 journal breaks stopped =
-    subst (λ (bytes : List ℕ). Stopped out0 out1 bytes) (sym (begins_output c in0 in1 journal breaks))
+    Stopped out0 out1 (bytes_handed c (played c breaks.input breaks.read_failed notes).journal)
+stopped_output c notes in0 in1 out0 out1 journal breaks stopped =
+    subst (λ (bytes : List ℕ). Stopped out0 out1 bytes) (sym (begins_output c notes in0 in1 journal breaks))
     (stopped_sooner out0 out1 (bytes_handed c journal) (concat (handed_from 1 (run_from (empty c) journal) breaks.more)) stopped)
 
 -- the connection was played
-answers_ended : (c : Configuration) (file : List ℕ) (in0 in1 : Input) (out0 out1 : Output) (end : End) (journal : List Entry) →
-    Plays c in0 out0 in1 out1 journal end →
-    Answers (tells c) (Some (Play file)) in0 in1 out0 out1 (Ended end)
-answers_ended c file in0 in1 out0 out1 ends.Exit journal plays = answers_finished c file in0 in1 out0 out1 ends.Exit journal plays
-answers_ended c file in0 in1 out0 out1 ends.Eof journal plays = answers_finished c file in0 in1 out0 out1 ends.Eof journal plays
-answers_ended c file in0 in1 out0 out1 ends.AuthRefused journal plays =
-    answers_finished c file in0 in1 out0 out1 ends.AuthRefused journal plays
-answers_ended c file in0 in1 out0 out1 ends.Stopped journal plays =
-    answers_finished c file in0 in1 out0 out1 ends.Stopped journal plays
-answers_ended c file in0 in1 out0 out1 ends.ReadFault journal plays = answers_finished c file in0 in1 out0 out1 ends.ReadFault journal plays
-answers_ended c file in0 in1 out0 out1 (ends.TooLong len) journal plays =
-    answers_finished c file in0 in1 out0 out1 (ends.TooLong len) journal plays
-answers_ended c file in0 in1 out0 out1 ends.BadLength journal plays = answers_finished c file in0 in1 out0 out1 ends.BadLength journal plays
-answers_ended c file in0 in1 out0 out1 (ends.JournalFull cost limit) journal plays =
-    answers_finished c file in0 in1 out0 out1 (ends.JournalFull cost limit) journal plays
-answers_ended c file in0 in1 out0 out1 (ends.Runaway count) journal plays =
-    answers_finished c file in0 in1 out0 out1 (ends.Runaway count) journal plays
-answers_ended c file in0 in1 out0 out1 ends.Memory journal (all_written plays) = let b = plays.breaks in record {
+answers_ended : (c : Configuration) (notes : List LoadNote) (file : List ℕ) (in0 in1 : Input) (out0 out1 : Output) (end : End)
+    (journal : List Entry) →
+    Plays c notes in0 out0 in1 out1 journal end →
+    Answers (tells c notes) (Some (Play file)) in0 in1 out0 out1 (Ended end)
+answers_ended c notes file in0 in1 out0 out1 ends.Exit journal plays =
+    answers_finished c notes file in0 in1 out0 out1 ends.Exit journal plays
+answers_ended c notes file in0 in1 out0 out1 ends.Eof journal plays = answers_finished c notes file in0 in1 out0 out1 ends.Eof journal plays
+answers_ended c notes file in0 in1 out0 out1 ends.AuthRefused journal plays =
+    answers_finished c notes file in0 in1 out0 out1 ends.AuthRefused journal plays
+answers_ended c notes file in0 in1 out0 out1 ends.Stopped journal plays =
+    answers_finished c notes file in0 in1 out0 out1 ends.Stopped journal plays
+answers_ended c notes file in0 in1 out0 out1 ends.ReadFault journal plays =
+    answers_finished c notes file in0 in1 out0 out1 ends.ReadFault journal plays
+answers_ended c notes file in0 in1 out0 out1 (ends.TooLong len) journal plays =
+    answers_finished c notes file in0 in1 out0 out1 (ends.TooLong len) journal plays
+answers_ended c notes file in0 in1 out0 out1 ends.BadLength journal plays =
+    answers_finished c notes file in0 in1 out0 out1 ends.BadLength journal plays
+answers_ended c notes file in0 in1 out0 out1 (ends.JournalFull cost limit) journal plays =
+    answers_finished c notes file in0 in1 out0 out1 (ends.JournalFull cost limit) journal plays
+answers_ended c notes file in0 in1 out0 out1 (ends.Runaway count) journal plays =
+    answers_finished c notes file in0 in1 out0 out1 (ends.Runaway count) journal plays
+answers_ended c notes file in0 in1 out0 out1 ends.Memory journal (all_written plays) = let b = plays.breaks in record {
   from = in0;
   to = in1;
   input = b.input;
@@ -200,14 +213,14 @@ answers_ended c file in0 in1 out0 out1 ends.Memory journal (all_written plays) =
   does = lacks_memory (record {
     front = bytes_handed c journal;
     back = concat (handed_from 1 (run_from (empty c) journal) b.more);
-    split = begins_output c in0 in1 journal b;
+    split = begins_output c notes in0 in1 journal b;
     written = plays.written;
     line_is = refl;
     status_is = refl;
   });
-  rests = used_rests (tells c b.input b.read_failed) in0 in1 out0 out1 (Ended ends.Memory) refl;
+  rests = used_rests (tells c notes b.input b.read_failed) in0 in1 out0 out1 (Ended ends.Memory) refl;
 }
-answers_ended c file in0 in1 out0 out1 ends.Memory journal (then_failed plays) = let b = plays.breaks in record {
+answers_ended c notes file in0 in1 out0 out1 ends.Memory journal (then_failed plays) = let b = plays.breaks in record {
   from = in0;
   to = in1;
   input = b.input;
@@ -216,10 +229,10 @@ answers_ended c file in0 in1 out0 out1 ends.Memory journal (then_failed plays) =
   has_read = b.has_read;
   quiet = λ none. absurd none;
   does =
-      fails_for_memory (record { stopped = stopped_output c in0 in1 out0 out1 journal b plays.stopped; line_is = refl; status_is = refl });
-  rests = used_rests (tells c b.input b.read_failed) in0 in1 out0 out1 (Ended ends.Memory) refl;
+      fails_for_memory (record { stopped = stopped_output c notes in0 in1 out0 out1 journal b plays.stopped; line_is = refl; status_is = refl });
+  rests = used_rests (tells c notes b.input b.read_failed) in0 in1 out0 out1 (Ended ends.Memory) refl;
 }
-answers_ended c file in0 in1 out0 out1 ends.Memory journal (failed_before p plays same) = let b = plays.breaks in record {
+answers_ended c notes file in0 in1 out0 out1 ends.Memory journal (failed_before p plays same) = let b = plays.breaks in record {
   from = in0;
   to = in1;
   input = b.input;
@@ -229,13 +242,13 @@ answers_ended c file in0 in1 out0 out1 ends.Memory journal (failed_before p play
   quiet = λ none. absurd none;
   does =
       fails_for_memory (record {
-        stopped = stopped_output c in0 in1 out0 out1 p.journal b plays.stopped;
+        stopped = stopped_output c notes in0 in1 out0 out1 p.journal b plays.stopped;
         line_is = refl;
         status_is = refl;
       });
-  rests = used_rests (tells c b.input b.read_failed) in0 in1 out0 out1 (Ended ends.Memory) refl;
+  rests = used_rests (tells c notes b.input b.read_failed) in0 in1 out0 out1 (Ended ends.Memory) refl;
 }
-answers_ended c file in0 in1 out0 out1 ends.WriteFault journal plays = let b = plays.breaks_at.breaks in record {
+answers_ended c notes file in0 in1 out0 out1 ends.WriteFault journal plays = let b = plays.breaks_at.breaks in record {
   from = in0;
   to = in1;
   input = b.input;
@@ -245,32 +258,89 @@ answers_ended c file in0 in1 out0 out1 ends.WriteFault journal plays = let b = p
   quiet = λ none. absurd none;
   does =
       fails_to_write (record {
-        stopped = stopped_output c in0 in1 out0 out1 plays.play.journal b plays.breaks_at.stopped;
+        stopped = stopped_output c notes in0 in1 out0 out1 plays.play.journal b plays.breaks_at.stopped;
         line_is = refl;
         status_is = refl;
       });
-  rests = used_rests (tells c b.input b.read_failed) in0 in1 out0 out1 (Ended ends.WriteFault) refl;
+  rests = used_rests (tells c notes b.input b.read_failed) in0 in1 out0 out1 (Ended ends.WriteFault) refl;
 }
 
-pub answers_played : (c : Configuration) (file : List ℕ) (in0 in1 : Input) (out0 out1 : Output) (outcome : Outcome) →
-    PlaysTo c in0 out0 in1 out1 outcome →
-    Answers (tells c) (Some (Play file)) in0 in1 out0 out1 outcome
-answers_played c file in0 in1 out0 out1 Usage plays = absurd plays
-answers_played c file in0 in1 out0 out1 (CannotRead name) plays = absurd plays
-answers_played c file in0 in1 out0 out1 (BadDocument fault) plays = absurd plays
-answers_played c file in0 in1 out0 out1 (BadPattern fault) plays = absurd plays
-answers_played c file in0 in1 out0 out1 Printed plays = absurd plays
-answers_played c file in0 in1 out0 out1 (Ended end) plays = answers_ended c file in0 in1 out0 out1 end plays.0 plays.1
+pub answers_played : (c : Configuration) (notes : List LoadNote) (file : List ℕ) (in0 in1 : Input) (out0 out1 : Output) (outcome : Outcome) →
+    PlaysTo c notes in0 out0 in1 out1 outcome →
+    Answers (tells c notes) (Some (Play file)) in0 in1 out0 out1 outcome
+answers_played c notes file in0 in1 out0 out1 Usage plays = absurd plays
+answers_played c notes file in0 in1 out0 out1 (CannotRead name) plays = absurd plays
+answers_played c notes file in0 in1 out0 out1 (BadDocument fault) plays = absurd plays
+answers_played c notes file in0 in1 out0 out1 (BadPattern fault) plays = absurd plays
+answers_played c notes file in0 in1 out0 out1 Printed plays = absurd plays
+answers_played c notes file in0 in1 out0 out1 (Ended end) plays = answers_ended c notes file in0 in1 out0 out1 end plays.0 plays.1
 
 -- memory was wanting for the machine
-pub plays_none : (c : Configuration) (in0 : Input) (out0 : Output) → PlaysTo c in0 out0 in0 out0 (Ended ends.Memory)
-plays_none c in0 out0 = (
+plays_none : (c : Configuration) (notes : List LoadNote) (in0 : Input) (out0 : Output) → PlaysTo c notes in0 out0 in0 out0 (Ended ends.Memory)
+plays_none c notes in0 out0 = (
   [],
   all_written (record {
-    breaks = record { input = []; read_failed = false; has_read = reads_none in0; more = (played c [] false).journal; split = refl };
+    breaks = record { input = []; read_failed = false; has_read = reads_none in0; more = (played c [] false notes).journal; split = refl };
     written = writes_nothing out0;
   }),
 )
+
+-- ---- loads of the file that is played
+
+-- loads that are all noted
+noted_all : (old new : FileView) (notes : List LoadNote) → HasLoaded old new notes → HasLoadedOrBegun old new notes
+noted_all old new notes loaded = record {
+  mid = new;
+  noted = loaded;
+  begun = record { rest = inl (λ k. refl); counts = inl (refl, refl) };
+}
+
+-- what a play loaded, by its end
+reloads_by : (end : End) (old new : FileView) (notes : List LoadNote) → LoadsBy end old new notes → ReloadsAs Player (Ended end) old new notes
+reloads_by ends.Exit old new notes loads = (noted_all old new notes loads, λ _. loads)
+reloads_by ends.Eof old new notes loads = (noted_all old new notes loads, λ _. loads)
+reloads_by ends.AuthRefused old new notes loads = (noted_all old new notes loads, λ _. loads)
+reloads_by ends.Stopped old new notes loads = (noted_all old new notes loads, λ _. loads)
+reloads_by ends.ReadFault old new notes loads = (noted_all old new notes loads, λ _. loads)
+reloads_by ends.WriteFault old new notes loads = (noted_all old new notes loads, λ _. loads)
+reloads_by (ends.TooLong len) old new notes loads = (noted_all old new notes loads, λ _. loads)
+reloads_by ends.BadLength old new notes loads = (noted_all old new notes loads, λ _. loads)
+reloads_by (ends.JournalFull cost limit) old new notes loads = (noted_all old new notes loads, λ _. loads)
+reloads_by (ends.Runaway count) old new notes loads = (noted_all old new notes loads, λ _. loads)
+reloads_by ends.Memory old new notes loads = (loads, λ not_one. absurd (not_one refl))
+
+pub plays_anew : (c : Configuration) (notes : List LoadNote) (view0 view1 : FileView) (in0 : Input) (out0 : Output) (in1 : Input)
+    (out1 : Output) (end : End) (journal : List Entry) → Plays c notes in0 out0 in1 out1 journal end → LoadsBy end view0 view1 notes →
+    PlaysAnew c view0 view1 in0 out0 in1 out1 (Ended end)
+plays_anew c notes view0 view1 in0 out0 in1 out1 end journal plays loads =
+    record { notes = notes; reloaded = reloads_by end view0 view1 notes loads; plays = (journal, plays) }
+
+-- memory was wanting before any
+pub plays_nothing : (c : Configuration) (view : FileView) (in0 : Input) (out0 : Output) →
+    PlaysAnew c view view in0 out0 in0 out0 (Ended ends.Memory)
+plays_nothing c view in0 out0 = record {
+  notes = [];
+  reloaded = reloads_by ends.Memory view view [] (noted_all view view [] (loaded_none view));
+  plays = plays_none c [] in0 out0;
+}
+
+-- nothing is loaded again where memory was wanting before
+reloads_none : (asked : Asked) (view : FileView) → ReloadsAs (reloader_of asked) (Ended ends.Memory) view view []
+reloads_none (Check file) view = (refl, refl)
+reloads_none (Hunt file context dest) view = (refl, refl)
+reloads_none (Play file) view = reloads_by ends.Memory view view [] (noted_all view view [] (loaded_none view))
+reloads_none (Load count start) view = refl
+
+reloads_unread : (asked : Asked) (read : Result Configuration DocFault) (view : FileView) →
+    ReloadsAs (reloader_read asked read None) (Ended ends.Memory) view view []
+reloads_unread asked (Ok c) view = reloads_none asked view
+reloads_unread asked (Err fault) view = (refl, refl)
+
+reloads_unloaded : (asked : Asked) (file : File) (view : FileView) →
+    ReloadsAs (reloader_file asked file None) (Ended ends.Memory) view view []
+reloads_unloaded asked (Got bytes) view = reloads_unread asked (config_of bytes) view
+reloads_unloaded asked Absent view = (refl, refl)
+reloads_unloaded asked Failed view = (refl, refl)
 
 -- ---- loads
 
@@ -290,47 +360,50 @@ told_counted count tallies last = record {
 }
 
 -- all its calls were made, and the counts were printed
-pub loads_counted : (c : Configuration) (count start : ℕ) (to in1 : Input) (gone out0 out1 : Output) (journal : List Entry)
-    (tallies : Tallies) (outcome : Outcome) →
-    Finishes c (input_left (load_input count start)) dropped to gone ends.Exit journal → to.faults ≡ 0 →
+pub loads_counted : (c : Configuration) (notes : List LoadNote) (count start : ℕ) (to in1 : Input) (gone out0 out1 : Output)
+    (journal : List Entry) (tallies : Tallies) (outcome : Outcome) →
+    Finishes c notes (input_left (load_input count start)) dropped to gone ends.Exit journal → to.faults ≡ 0 →
     tallies ≡ (run_from (empty c) journal).counts → CarriesOutAs (told_text (counts_text count tallies)) in1 out0 out1 outcome →
     Loads c count start out0 out1 outcome
-loads_counted c count start to in1 gone out0 out1 journal tallies outcome f faults counted does =
+loads_counted c notes count start to in1 gone out0 out1 journal tallies outcome f faults counted does =
     let whole = none_failed f.read_failed to.faults f.has_read.faults faults in
-    let end_is = subst (λ (b : Bool). (played c f.input b).end ≡ Some ends.Exit) whole f.end_is in
-    let journal_is : journal ≡ (played c f.input false).journal = subst (λ (b : Bool). journal ≡ (played c f.input b).journal) whole
+    let end_is = subst (λ (b : Bool). (played c f.input b notes).end ≡ Some ends.Exit) whole f.end_is in
+    let journal_is : journal ≡ (played c f.input false notes).journal = subst (λ (b : Bool). journal ≡ (played c f.input b notes).journal) whole
     f.journal_is in
-    let counts_are : tallies ≡ (switch_of (played c f.input false)).counts =
+    let counts_are : tallies ≡ (switch_of (played c f.input false notes)).counts =
     counted ∙ ap (λ entries. (run_from (empty c) entries).counts) journal_is
-    ∙ ap (λ d. (run_from (empty d) (played c f.input false).journal).counts) (sym (config_played c f.input false)) in
-    let told_is : told_calls count (played c f.input false) ≡ told_text (counts_text count tallies) =
-    ap (told_counted count (switch_of (played c f.input false)).counts) end_is
+    ∙ ap (λ d. (run_from (empty d) (played c f.input false notes).journal).counts) (sym (config_played c f.input false notes)) in
+    let told_is : told_calls count (played c f.input false notes) ≡ told_text (counts_text count tallies) =
+    ap (told_counted count (switch_of (played c f.input false notes)).counts) end_is
     ∙ ap (λ (t : Tallies). told_counted count t (Some ends.Exit)) (sym counts_are) in
     record {
       to = to;
       input = f.input;
       has_read = subst (λ (b : Bool). HasRead (input_left (load_input count start)) to f.input b) whole f.has_read;
       faults = faults;
+      notes = notes;
       does =
           subst (λ (t : Told). CarriesOutAs t to out0 out1 outcome) (sym told_is) (text_anywhere (counts_text count tallies) in1 to out0 out1
           outcome does);
     }
 
 -- the play came to another end
-loads_finished : (c : Configuration) (count start : ℕ) (to : Input) (gone out0 : Output) (end : End) (journal : List Entry) →
-    Finishes c (input_left (load_input count start)) dropped to gone end journal → to.faults ≡ 0 →
+loads_finished : (c : Configuration) (notes : List LoadNote) (count start : ℕ) (to : Input) (gone out0 : Output) (end : End)
+    (journal : List Entry) →
+    Finishes c notes (input_left (load_input count start)) dropped to gone end journal → to.faults ≡ 0 →
     ((tallies : Tallies) → counts_printed count tallies end ≡ []) → Loads c count start out0 out0 (Ended end)
-loads_finished c count start to gone out0 end journal f faults prints =
+loads_finished c notes count start to gone out0 end journal f faults prints =
     let whole = none_failed f.read_failed to.faults f.has_read.faults faults in
-    let end_is = subst (λ (b : Bool). (played c f.input b).end ≡ Some end) whole f.end_is in
-    let counts = (switch_of (played c f.input false)).counts in
-    let nothing : (told_calls count (played c f.input false)).output ≡ [] =
+    let end_is = subst (λ (b : Bool). (played c f.input b notes).end ≡ Some end) whole f.end_is in
+    let counts = (switch_of (played c f.input false notes)).counts in
+    let nothing : (told_calls count (played c f.input false notes)).output ≡ [] =
     ap (λ (last : Option End). unwrap_or (option_map (counts_printed count counts) last) []) end_is ∙ prints counts in
     record {
       to = to;
       input = f.input;
       has_read = subst (λ (b : Bool). HasRead (input_left (load_input count start)) to f.input b) whole f.has_read;
       faults = faults;
+      notes = notes;
       does = completes (record {
         written = subst (λ (bytes : List ℕ). Writes out0 out0 bytes) (sym nothing) (writes_nothing out0);
         line_is = sym (ap (λ (last : Option End). unwrap_or (option_map line_of_end last) []) end_is);
@@ -346,41 +419,42 @@ loads_none c count start out0 = let none = input_left (load_input count start) i
   input = [];
   has_read = reads_none none;
   faults = refl;
-  does = memory_does (told_calls count (played c [] false)) none out0;
+  notes = [];
+  does = memory_does (told_calls count (played c [] false [])) none out0;
 }
 
 -- no write fails of a link that drops what is written
 never_stopped : (bytes : List ℕ) → Stopped dropped dropped bytes → ⊥
 never_stopped bytes stopped = let one : 0 ≡ raised 0 = stopped.faults in cc
 
-pub loads_ended : (c : Configuration) (count start : ℕ) (to : Input) (out0 : Output) (end : End) (journal : List Entry) →
-    Plays c (input_left (load_input count start)) dropped to dropped journal end → to.faults ≡ 0 → end ≢ ends.Exit →
+pub loads_ended : (c : Configuration) (notes : List LoadNote) (count start : ℕ) (to : Input) (out0 : Output) (end : End) (journal : List Entry) →
+    Plays c notes (input_left (load_input count start)) dropped to dropped journal end → to.faults ≡ 0 → end ≢ ends.Exit →
     Loads c count start out0 out0 (Ended end)
-loads_ended c count start to out0 ends.Exit journal plays faults other = absurd (other refl)
-loads_ended c count start to out0 ends.Eof journal plays faults other =
-    loads_finished c count start to dropped out0 ends.Eof journal plays faults (λ tallies. refl)
-loads_ended c count start to out0 ends.AuthRefused journal plays faults other =
-    loads_finished c count start to dropped out0 ends.AuthRefused journal plays faults (λ tallies. refl)
-loads_ended c count start to out0 ends.Stopped journal plays faults other =
-    loads_finished c count start to dropped out0 ends.Stopped journal plays faults (λ tallies. refl)
-loads_ended c count start to out0 ends.ReadFault journal plays faults other =
-    loads_finished c count start to dropped out0 ends.ReadFault journal plays faults (λ tallies. refl)
-loads_ended c count start to out0 (ends.TooLong len) journal plays faults other =
-    loads_finished c count start to dropped out0 (ends.TooLong len) journal plays faults (λ tallies. refl)
-loads_ended c count start to out0 ends.BadLength journal plays faults other =
-    loads_finished c count start to dropped out0 ends.BadLength journal plays faults (λ tallies. refl)
-loads_ended c count start to out0 (ends.JournalFull cost limit) journal plays faults other =
-    loads_finished c count start to dropped out0 (ends.JournalFull cost limit) journal plays faults (λ tallies. refl)
-loads_ended c count start to out0 (ends.Runaway entries) journal plays faults other =
-    loads_finished c count start to dropped out0 (ends.Runaway entries) journal plays faults (λ tallies. refl)
-loads_ended c count start to out0 ends.Memory journal plays faults other = loads_none c count start out0
-loads_ended c count start to out0 ends.WriteFault journal plays faults other =
+loads_ended c notes count start to out0 ends.Exit journal plays faults other = absurd (other refl)
+loads_ended c notes count start to out0 ends.Eof journal plays faults other =
+    loads_finished c notes count start to dropped out0 ends.Eof journal plays faults (λ tallies. refl)
+loads_ended c notes count start to out0 ends.AuthRefused journal plays faults other =
+    loads_finished c notes count start to dropped out0 ends.AuthRefused journal plays faults (λ tallies. refl)
+loads_ended c notes count start to out0 ends.Stopped journal plays faults other =
+    loads_finished c notes count start to dropped out0 ends.Stopped journal plays faults (λ tallies. refl)
+loads_ended c notes count start to out0 ends.ReadFault journal plays faults other =
+    loads_finished c notes count start to dropped out0 ends.ReadFault journal plays faults (λ tallies. refl)
+loads_ended c notes count start to out0 (ends.TooLong len) journal plays faults other =
+    loads_finished c notes count start to dropped out0 (ends.TooLong len) journal plays faults (λ tallies. refl)
+loads_ended c notes count start to out0 ends.BadLength journal plays faults other =
+    loads_finished c notes count start to dropped out0 ends.BadLength journal plays faults (λ tallies. refl)
+loads_ended c notes count start to out0 (ends.JournalFull cost limit) journal plays faults other =
+    loads_finished c notes count start to dropped out0 (ends.JournalFull cost limit) journal plays faults (λ tallies. refl)
+loads_ended c notes count start to out0 (ends.Runaway entries) journal plays faults other =
+    loads_finished c notes count start to dropped out0 (ends.Runaway entries) journal plays faults (λ tallies. refl)
+loads_ended c notes count start to out0 ends.Memory journal plays faults other = loads_none c count start out0
+loads_ended c notes count start to out0 ends.WriteFault journal plays faults other =
     absurd (never_stopped (bytes_handed c plays.play.journal) plays.breaks_at.stopped)
 
 -- what a load came to is what is told of it
-pub answers_loaded : (c : Configuration) (count start : ℕ) (in0 in1 : Input) (out0 out1 : Output) (outcome : Outcome) → in1 ≡ in0 →
-    Loads c count start out0 out1 outcome →
-    Answers (told_asked (Load count start) c) (Some (Load count start)) in0 in1 out0 out1 outcome
+answers_loaded : (c : Configuration) (count start : ℕ) (in0 in1 : Input) (out0 out1 : Output) (outcome : Outcome) → in1 ≡ in0 →
+    (loads : Loads c count start out0 out1 outcome) →
+    Answers (told_asked (Load count start) c loads.notes) (Some (Load count start)) in0 in1 out0 out1 outcome
 answers_loaded c count start in0 in1 out0 out1 outcome same loads = record {
   from = input_left (load_input count start);
   to = loads.to;
@@ -390,51 +464,103 @@ answers_loaded c count start in0 in1 out0 out1 outcome same loads = record {
   has_read = loads.has_read;
   quiet = λ _. same;
   does = loads.does;
-  rests = used_rests (told_calls count (played c loads.input false)) in0 in1 out0 out1 outcome refl;
+  rests = used_rests (told_calls count (played c loads.input false loads.notes)) in0 in1 out0 out1 outcome refl;
+}
+
+-- ---- over a dialplan
+
+-- a text was printed, and nothing loaded again
+pub plan_alone : (asked : Asked) (c : Configuration) (view : FileView) (in0 in1 : Input) (out0 out1 : Output) (outcome : Outcome) →
+    reloader_of asked ≡ Nobody → Answers (told_asked asked c []) (Some asked) in0 in1 out0 out1 outcome →
+    OverPlan asked c view view in0 in1 out0 out1 outcome
+plan_alone asked c view in0 in1 out0 out1 outcome alone answers = record {
+  notes = [];
+  reloaded = subst (λ (who : Reloader). ReloadsAs who outcome view view []) (sym alone) (refl, refl);
+  answers = answers;
+}
+
+pub plan_played : (c : Configuration) (file : List ℕ) (view0 view1 : FileView) (in0 in1 : Input) (out0 out1 : Output) (outcome : Outcome) →
+    PlaysAnew c view0 view1 in0 out0 in1 out1 outcome → OverPlan (Play file) c view0 view1 in0 in1 out0 out1 outcome
+plan_played c file view0 view1 in0 in1 out0 out1 outcome plays = record {
+  notes = plays.notes;
+  reloaded = plays.reloaded;
+  answers = answers_played c plays.notes file in0 in1 out0 out1 outcome plays.plays;
+}
+
+pub plan_loaded : (c : Configuration) (count start : ℕ) (view : FileView) (in0 in1 : Input) (out0 out1 : Output) (outcome : Outcome) →
+    in1 ≡ in0 → Loads c count start out0 out1 outcome → OverPlan (Load count start) c view view in0 in1 out0 out1 outcome
+plan_loaded c count start view in0 in1 out0 out1 outcome same loads = record {
+  notes = loads.notes;
+  reloaded = refl;
+  answers = answers_loaded c count start in0 in1 out0 out1 outcome same loads;
 }
 
 -- ---- over a configuration
 
+-- building patterns left the loads of the file of a name as they were
+pub loads_kept : (loads0 loads1 : List ℕ → ℕ → Option File) (counts0 counts1 : LoadCounts) (sizes0 sizes1 : ℕ) (name : List ℕ) →
+    (counts1 ≡ counts0) × (loads1 ≡ loads0) →
+    KeepsLoads (file_view (loads0 name) counts0 sizes0) (file_view (loads1 name) counts1 sizes1)
+loads_kept loads0 loads1 counts0 counts1 sizes0 sizes1 name kept =
+    record { loads = ap (λ (loads : List ℕ → ℕ → Option File). loads name) kept.1; counts = kept.0 }
+
 -- no pattern was refused
-pub over_plan : (asked : Asked) (c : Configuration) (sizes0 sizes1 : ℕ) (in0 in1 : Input) (out0 out1 : Output) (outcome : Outcome) →
-    sizes1 ≡ sizes0 →
-    Answers (told_asked asked c) (Some asked) in0 in1 out0 out1 outcome → OverConfig asked c sizes0 sizes1 in0 in1 out0 out1 outcome
-over_plan asked c sizes0 sizes1 in0 in1 out0 out1 outcome sizes answers = record { built = None; built_told = sizes; answers = answers }
+pub over_plan : (asked : Asked) (c : Configuration) (view0 mid view1 : FileView) (in0 in1 : Input) (out0 out1 : Output) (outcome : Outcome) →
+    OverPlan asked c mid view1 in0 in1 out0 out1 outcome → mid.sizes ≡ view0.sizes → KeepsLoads view0 mid →
+    OverConfig asked c view0 view1 in0 in1 out0 out1 outcome
+over_plan asked c view0 mid view1 in0 in1 out0 out1 outcome plan sizes kept = record {
+  built = None;
+  store = mid;
+  notes = plan.notes;
+  built_told = sizes;
+  kept = kept;
+  reloaded = plan.reloaded;
+  answers = plan.answers;
+}
 
 -- one was refused
-over_refused : (asked : Asked) (c : Configuration) (fault : PlanFault) (sizes0 sizes1 : ℕ) (in0 : Input) (out0 : Output) →
-    RefusesPattern c.contexts fault sizes0 sizes1 →
-    OverConfig asked c sizes0 sizes1 in0 in0 out0 out0 (BadPattern fault)
-over_refused asked c fault sizes0 sizes1 in0 out0 refused = record {
+over_refused : (asked : Asked) (c : Configuration) (fault : PlanFault) (view0 view1 : FileView) (in0 : Input) (out0 : Output) →
+    RefusesPattern c.contexts fault view0.sizes view1.sizes → KeepsLoads view0 view1 →
+    OverConfig asked c view0 view1 in0 in0 out0 out0 (BadPattern fault)
+over_refused asked c fault view0 view1 in0 out0 refused kept = record {
   built = Some fault;
+  store = view1;
+  notes = [];
   built_told = refused;
-  answers = answers_quiet (told_built asked c (Some fault)) (Some asked) in0 in0 out0 out0 (BadPattern fault) refl
+  kept = kept;
+  reloaded = (refl, refl);
+  answers = answers_quiet (told_built asked c (Some fault) []) (Some asked) in0 in0 out0 out0 (BadPattern fault) refl
       (λ to. refused_does to out0 (pattern_line fault) 3 (BadPattern fault) refl refl)
       (refused_rests in0 out0 (pattern_line fault) 3 (BadPattern fault) refl refl);
 }
 
 -- memory was wanting for them
-over_unbuilt : (asked : Asked) (c : Configuration) (sizes0 sizes1 : ℕ) (in0 : Input) (out0 : Output) → sizes1 ≡ sizes0 →
-    OverConfig asked c sizes0 sizes1 in0 in0 out0 out0 (Ended ends.Memory)
-over_unbuilt asked c sizes0 sizes1 in0 out0 sizes = record {
+over_unbuilt : (asked : Asked) (c : Configuration) (view0 view1 : FileView) (in0 : Input) (out0 : Output) → view1.sizes ≡ view0.sizes →
+    KeepsLoads view0 view1 →
+    OverConfig asked c view0 view1 in0 in0 out0 out0 (Ended ends.Memory)
+over_unbuilt asked c view0 view1 in0 out0 sizes kept = record {
   built = None;
+  store = view1;
+  notes = [];
   built_told = sizes;
+  kept = kept;
+  reloaded = reloads_none asked view1;
   answers =
-      answers_quiet (told_built asked c None) (Some asked) in0 in0 out0 out0 (Ended ends.Memory) refl
-      (λ to. memory_does (told_built asked c None [] false) to out0) (memory_rests (told_built asked c None [] false) in0 out0);
+      answers_quiet (told_built asked c None []) (Some asked) in0 in0 out0 out0 (Ended ends.Memory) refl
+      (λ to. memory_does (told_built asked c None [] [] false) to out0) (memory_rests (told_built asked c None [] [] false) in0 out0);
 }
 
 -- the dialplan was not built
-pub over_fault : (asked : Asked) (c : Configuration) (fault : PlanFault) (sizes0 sizes1 : ℕ) (in0 : Input) (out0 : Output) →
-    IsPlanRefusal c.contexts fault → sizes1 ≡ sizes_after fault sizes0 →
-    OverConfig asked c sizes0 sizes1 in0 in0 out0 out0 (not_built fault)
-over_fault asked c NoMemory sizes0 sizes1 in0 out0 refusal sizes = over_unbuilt asked c sizes0 sizes1 in0 out0 sizes
-over_fault asked c (PatternRefused extension condition) sizes0 sizes1 in0 out0 refusal sizes =
-    over_refused asked c (PatternRefused extension condition) sizes0 sizes1 in0 out0
-    (record { refusal = refusal; no_want = λ e. absurd (cc); sizes = sizes })
-over_fault asked c (PatternTooLarge extension condition) sizes0 sizes1 in0 out0 refusal sizes =
-    over_refused asked c (PatternTooLarge extension condition) sizes0 sizes1 in0 out0
-    (record { refusal = refusal; no_want = λ e. absurd (cc); sizes = sizes })
+pub over_fault : (asked : Asked) (c : Configuration) (fault : PlanFault) (view0 view1 : FileView) (in0 : Input) (out0 : Output) →
+    IsPlanRefusal c.contexts fault → view1.sizes ≡ sizes_after fault view0.sizes → KeepsLoads view0 view1 →
+    OverConfig asked c view0 view1 in0 in0 out0 out0 (not_built fault)
+over_fault asked c NoMemory view0 view1 in0 out0 refusal sizes kept = over_unbuilt asked c view0 view1 in0 out0 sizes kept
+over_fault asked c (PatternRefused extension condition) view0 view1 in0 out0 refusal sizes kept =
+    over_refused asked c (PatternRefused extension condition) view0 view1 in0 out0
+    (record { refusal = refusal; no_want = λ e. absurd (cc); sizes = sizes }) kept
+over_fault asked c (PatternTooLarge extension condition) view0 view1 in0 out0 refusal sizes kept =
+    over_refused asked c (PatternTooLarge extension condition) view0 view1 in0 out0
+    (record { refusal = refusal; no_want = λ e. absurd (cc); sizes = sizes }) kept
 
 -- ---- over the bytes of a document
 
@@ -444,52 +570,72 @@ built_of : (bytes : List ℕ) (c : Configuration) (built : Option PlanFault) (si
 built_of bytes c None sizes0 sizes1 reads told = told
 built_of bytes c (Some fault) sizes0 sizes1 reads told = (c, reads, told)
 
-pub over_read : (asked : Asked) (bytes : List ℕ) (c : Configuration) (sizes0 sizes1 : ℕ) (in0 in1 : Input) (out0 out1 : Output)
+pub over_read : (asked : Asked) (bytes : List ℕ) (c : Configuration) (view0 view1 : FileView) (in0 in1 : Input) (out0 out1 : Output)
     (outcome : Outcome) → config_of bytes ≡ Ok c →
-    OverConfig asked c sizes0 sizes1 in0 in1 out0 out1 outcome → OverBytes asked bytes sizes0 sizes1 in0 in1 out0 out1 outcome
-over_read asked bytes c sizes0 sizes1 in0 in1 out0 out1 outcome reads over = record {
+    OverConfig asked c view0 view1 in0 in1 out0 out1 outcome → OverBytes asked bytes view0 view1 in0 in1 out0 out1 outcome
+over_read asked bytes c view0 view1 in0 in1 out0 out1 outcome reads over = record {
   built = over.built;
-  built_told = built_of bytes c over.built sizes0 sizes1 reads over.built_told;
+  store = over.store;
+  notes = over.notes;
+  built_told = built_of bytes c over.built view0.sizes over.store.sizes reads over.built_told;
+  kept = over.kept;
+  reloaded =
+      subst (λ (r : Result Configuration DocFault). ReloadsAs (reloader_read asked r over.built) outcome over.store view1 over.notes)
+      (sym reads) over.reloaded;
   answers =
-      subst (λ (r : Result Configuration DocFault). Answers (told_read asked r over.built) (Some asked) in0 in1 out0 out1 outcome)
+      subst (λ (r : Result Configuration DocFault). Answers (told_read asked r over.built over.notes) (Some asked) in0 in1 out0 out1 outcome)
       (sym reads) over.answers;
 }
 
-pub over_faulty : (asked : Asked) (bytes : List ℕ) (fault : DocFault) (sizes : ℕ) (in0 : Input) (out0 : Output) →
+-- the loads are as they were where nothing was done with the files
+nothing_kept : (view : FileView) → KeepsLoads view view
+nothing_kept view = record { loads = refl; counts = refl }
+
+over_faulty : (asked : Asked) (bytes : List ℕ) (fault : DocFault) (view : FileView) (in0 : Input) (out0 : Output) →
     config_of bytes ≡ Err fault →
-    OverBytes asked bytes sizes sizes in0 in0 out0 out0 (BadDocument fault)
-over_faulty asked bytes fault sizes in0 out0 reads = record {
+    OverBytes asked bytes view view in0 in0 out0 out0 (BadDocument fault)
+over_faulty asked bytes fault view in0 out0 reads = record {
   built = None;
+  store = view;
+  notes = [];
   built_told = refl;
+  kept = nothing_kept view;
+  reloaded =
+      subst (λ (r : Result Configuration DocFault). ReloadsAs (reloader_read asked r None) (BadDocument fault) view view [])
+      (sym reads) (refl, refl);
   answers =
-      subst (λ (r : Result Configuration DocFault). Answers (told_read asked r None) (Some asked) in0 in0 out0 out0 (BadDocument fault))
+      subst (λ (r : Result Configuration DocFault). Answers (told_read asked r None []) (Some asked) in0 in0 out0 out0 (BadDocument fault))
       (sym reads)
-      (answers_quiet (told_read asked (Err fault) None) (Some asked) in0 in0 out0 out0 (BadDocument fault) refl
+      (answers_quiet (told_read asked (Err fault) None []) (Some asked) in0 in0 out0 out0 (BadDocument fault) refl
       (λ to. refused_does to out0 (fault_line fault) 3 (BadDocument fault) refl refl)
       (refused_rests in0 out0 (fault_line fault) 3 (BadDocument fault) refl refl));
 }
 
-pub over_unread : (asked : Asked) (bytes : List ℕ) (sizes : ℕ) (in0 : Input) (out0 : Output) →
-    OverBytes asked bytes sizes sizes in0 in0 out0 out0 (Ended ends.Memory)
-over_unread asked bytes sizes in0 out0 = record {
+over_unread : (asked : Asked) (bytes : List ℕ) (view : FileView) (in0 : Input) (out0 : Output) →
+    OverBytes asked bytes view view in0 in0 out0 out0 (Ended ends.Memory)
+over_unread asked bytes view in0 out0 = record {
   built = None;
+  store = view;
+  notes = [];
   built_told = refl;
+  kept = nothing_kept view;
+  reloaded = reloads_unread asked (config_of bytes) view;
   answers =
-      answers_quiet (told_file asked (Got bytes) None) (Some asked) in0 in0 out0 out0 (Ended ends.Memory) refl
-      (λ to. memory_does (told_file asked (Got bytes) None [] false) to out0)
-      (memory_rests (told_file asked (Got bytes) None [] false) in0 out0);
+      answers_quiet (told_file asked (Got bytes) None []) (Some asked) in0 in0 out0 out0 (Ended ends.Memory) refl
+      (λ to. memory_does (told_file asked (Got bytes) None [] [] false) to out0)
+      (memory_rests (told_file asked (Got bytes) None [] [] false) in0 out0);
 }
 
 -- the document was not read: it has this fault, or memory was wanting
-pub over_answer : (asked : Asked) (bytes : List ℕ) (fault : DocFault) (sizes : ℕ) (in0 : Input) (out0 : Output) →
+pub over_answer : (asked : Asked) (bytes : List ℕ) (fault : DocFault) (view : FileView) (in0 : Input) (out0 : Output) →
     (fault ≡ record { at = 0; kind = Memory }) ⊎ (config_of bytes ≡ Err fault) →
-    OverBytes asked bytes sizes sizes in0 in0 out0 out0 (not_read fault)
-over_answer asked bytes fault sizes in0 out0 why = by (is_memory fault.kind) refl
+    OverBytes asked bytes view view in0 in0 out0 out0 (not_read fault)
+over_answer asked bytes fault view in0 out0 why = by (is_memory fault.kind) refl
   where
     by : (memory : Bool) → is_memory fault.kind ≡ memory →
-        OverBytes asked bytes sizes sizes in0 in0 out0 out0 (cond memory (Ended ends.Memory) (BadDocument fault))
-    by true is = over_unread asked bytes sizes in0 out0
-    by false is = over_faulty asked bytes fault sizes in0 out0 (reads why)
+        OverBytes asked bytes view view in0 in0 out0 out0 (cond memory (Ended ends.Memory) (BadDocument fault))
+    by true is = over_unread asked bytes view in0 out0
+    by false is = over_faulty asked bytes fault view in0 out0 (reads why)
       where
         reads : (fault ≡ record { at = 0; kind = Memory }) ⊎ (config_of bytes ≡ Err fault) → config_of bytes ≡ Err fault
         reads (inl e) = let same : is_memory fault.kind ≡ true = ap (λ f. is_memory f.kind) e in absurd (cc)
@@ -497,16 +643,19 @@ over_answer asked bytes fault sizes in0 out0 why = by (is_memory fault.kind) ref
 
 -- ---- over a file
 
-pub runs_usage : (next_load : List ℕ → Option File) (counts : LoadCounts) (sizes : ℕ) (in0 : Input) (out0 : Output) →
-    Runs None next_load counts counts sizes sizes in0 in0 out0 out0 Usage
-runs_usage next_load counts sizes in0 out0 = record {
+pub runs_usage : (files : Library) (in0 : Input) (out0 : Output) → Runs None files files in0 in0 out0 out0 Usage
+runs_usage files in0 out0 = record {
   file = Absent;
   built = None;
+  store = view_in files [];
+  notes = [];
   file_told = tt;
   built_told = refl;
   loaded = λ _. refl;
+  behind = λ _. tt;
+  reloaded = (refl, refl);
   answers =
-      answers_quiet (told_words None Absent None) None in0 in0 out0 out0 Usage refl
+      answers_quiet (told_words None Absent None []) None in0 in0 out0 out0 Usage refl
       (λ to. refused_does to out0 usage_line 2 Usage refl refl) (refused_rests in0 out0 usage_line 2 Usage refl refl);
   usage = λ _. refl;
 }
@@ -521,32 +670,70 @@ pub file_loaded : (asked : Asked) (name : List ℕ) (counts0 counts1 : LoadCount
 file_loaded asked name counts0 counts1 file named counted =
     subst (λ (of : Option (List ℕ)). LoadedAs of counts0 counts1 file) (sym named) counted
 
+-- the loads to come are those behind that one
+file_behind : (asked : Asked) (name : List ℕ) (files0 files1 : Library) → file_asked asked ≡ Some name →
+    MovesOn files0.loads files1.loads name → AreBehind files0 (view_in files1 (name_of asked)) (file_asked asked)
+file_behind asked name files0 files1 named moves =
+    subst (λ (of : Option (List ℕ)). AreBehind files0 (view_in files1 (unwrap_or of [])) of) (sym named) moves
+
+-- they still are where they were kept
+behind_kept : (files : Library) (old new : FileView) (of : Option (List ℕ)) → new.loads ≡ old.loads → AreBehind files old of →
+    AreBehind files new of
+behind_kept files old new None kept behind = tt
+behind_kept files old new (Some name) kept behind = λ k. ap (λ (loads : ℕ → Option File). loads k) kept ∙ behind k
+
 -- the document of a load, for which no file is loaded
-pub document_given : (asked : Asked) (next_load : List ℕ → Option File) → file_asked asked ≡ None →
+document_given : (asked : Asked) (next_load : List ℕ → Option File) → file_asked asked ≡ None →
     Gives next_load (file_asked asked) (Got load_document)
 document_given asked next_load unnamed = subst (λ (of : Option (List ℕ)). Gives next_load of (Got load_document)) (sym unnamed) refl
 
-pub none_loaded : (asked : Asked) (counts : LoadCounts) (file : File) → file_asked asked ≡ None →
+none_loaded : (asked : Asked) (counts : LoadCounts) (file : File) → file_asked asked ≡ None →
     LoadedAs (file_asked asked) counts counts file
 none_loaded asked counts file unnamed = subst (λ (of : Option (List ℕ)). LoadedAs of counts counts file) (sym unnamed) refl
 
--- the file gave these bytes, or they are those of that document
-pub runs_bytes : (asked : Asked) (bytes : List ℕ) (next_load : List ℕ → Option File) (counts0 counts1 counts2 : LoadCounts)
-    (sizes0 sizes1 sizes2 : ℕ) (in0 in1 : Input) (out0 out1 : Output) (outcome : Outcome) →
-    Gives next_load (file_asked asked) (Got bytes) → LoadedAs (file_asked asked) counts0 counts1 (Got bytes) → counts2 ≡ counts1 →
-    sizes1 ≡ sizes0 →
-    OverBytes asked bytes sizes1 sizes2 in0 in1 out0 out1 outcome →
-    Runs (Some asked) next_load counts0 counts2 sizes0 sizes2 in0 in1 out0 out1 outcome
-runs_bytes asked bytes next_load counts0 counts1 counts2 sizes0 sizes1 sizes2 in0 in1 out0 out1 outcome tells counted counts sizes over =
-    record {
-      file = Got bytes;
-      built = over.built;
-      file_told = tells;
-      built_told = subst (λ (n : ℕ). IsBuilt (Got bytes) over.built n sizes2) sizes over.built_told;
-      loaded = λ _. subst (λ (n : LoadCounts). LoadedAs (file_asked asked) counts0 n (Got bytes)) (sym counts) counted;
-      answers = over.answers;
-      usage = λ none. absurd (cc);
-    }
+none_behind : (asked : Asked) (files : Library) (view : FileView) → file_asked asked ≡ None → AreBehind files view (file_asked asked)
+none_behind asked files view unnamed = subst (λ (of : Option (List ℕ)). AreBehind files view of) (sym unnamed) tt
+
+-- what was done over the bytes that were given, behind that load if there was one
+runs_bytes : (asked : Asked) (bytes : List ℕ) (files0 files1 files2 : Library) (in0 in1 : Input) (out0 out1 : Output) (outcome : Outcome) →
+    Gives (next files0.loads) (file_asked asked) (Got bytes) → LoadedAs (file_asked asked) files0.counts files1.counts (Got bytes) →
+    AreBehind files0 (view_in files1 (name_of asked)) (file_asked asked) → files1.sizes ≡ files0.sizes →
+    OverBytes asked bytes (view_in files1 (name_of asked)) (view_in files2 (name_of asked)) in0 in1 out0 out1 outcome →
+    Runs (Some asked) files0 files2 in0 in1 out0 out1 outcome
+runs_bytes asked bytes files0 files1 files2 in0 in1 out0 out1 outcome tells counted behind sizes over = record {
+  file = Got bytes;
+  built = over.built;
+  store = over.store;
+  notes = over.notes;
+  file_told = tells;
+  built_told = subst (λ (n : ℕ). IsBuilt (Got bytes) over.built n over.store.sizes) sizes over.built_told;
+  loaded = λ _. subst (λ (n : LoadCounts). LoadedAs (file_asked asked) files0.counts n (Got bytes)) (sym over.kept.counts) counted;
+  behind = λ _. behind_kept files0 (view_in files1 (name_of asked)) over.store (file_asked asked) over.kept.loads behind;
+  reloaded = over.reloaded;
+  answers = over.answers;
+  usage = λ none. absurd (cc);
+}
+
+-- the file gave these bytes
+pub runs_got : (asked : Asked) (name bytes : List ℕ) (files0 files1 files2 : Library) (in0 in1 : Input) (out0 out1 : Output)
+    (outcome : Outcome) → file_asked asked ≡ Some name → Tells (files0.loads name 0) (Got bytes) →
+    MovesOn files0.loads files1.loads name → Counted files0.counts files1.counts (Got bytes) → files1.sizes ≡ files0.sizes →
+    OverBytes asked bytes (view_in files1 (name_of asked)) (view_in files2 (name_of asked)) in0 in1 out0 out1 outcome →
+    Runs (Some asked) files0 files2 in0 in1 out0 out1 outcome
+runs_got asked name bytes files0 files1 files2 in0 in1 out0 out1 outcome named tells moves counted sizes over =
+    runs_bytes asked bytes files0 files1 files2 in0 in1 out0 out1 outcome
+    (file_given asked name (next files0.loads) (Got bytes) named tells)
+    (file_loaded asked name files0.counts files1.counts (Got bytes) named counted) (file_behind asked name files0 files1 named moves) sizes over
+
+-- they are those of the document of a load
+pub runs_given : (asked : Asked) (files0 files2 : Library) (in0 in1 : Input) (out0 out1 : Output) (outcome : Outcome) →
+    file_asked asked ≡ None →
+    OverBytes asked load_document (view_in files0 (name_of asked)) (view_in files2 (name_of asked)) in0 in1 out0 out1 outcome →
+    Runs (Some asked) files0 files2 in0 in1 out0 out1 outcome
+runs_given asked files0 files2 in0 in1 out0 out1 outcome unnamed over =
+    runs_bytes asked load_document files0 files0 files2 in0 in1 out0 out1 outcome (document_given asked (next files0.loads) unnamed)
+    (none_loaded asked files0.counts (Got load_document) unnamed) (none_behind asked files0 (view_in files0 (name_of asked)) unnamed) refl
+    over
 
 -- the line names the file that is asked for
 named_line : (asked : Asked) (name : List ℕ) → file_asked asked ≡ Some name → (outcome : Outcome) →
@@ -555,38 +742,46 @@ named_line asked name named outcome line_is =
     line_is ∙ ap (λ (of : Option (List ℕ)). cannot_read_line (unwrap_or of [])) (sym named)
 
 -- the file was not there, or could not be read
-pub runs_absent : (asked : Asked) (name : List ℕ) (next_load : List ℕ → Option File) (counts0 counts1 : LoadCounts) (sizes0 sizes1 : ℕ)
-    (in0 : Input) (out0 : Output) (outcome : Outcome) →
-    file_asked asked ≡ Some name → Tells (next_load name) Absent → Counted counts0 counts1 Absent → sizes1 ≡ sizes0 →
+pub runs_absent : (asked : Asked) (name : List ℕ) (files0 files1 : Library) (in0 : Input) (out0 : Output) (outcome : Outcome) →
+    file_asked asked ≡ Some name → Tells (files0.loads name 0) Absent → MovesOn files0.loads files1.loads name →
+    Counted files0.counts files1.counts Absent → files1.sizes ≡ files0.sizes →
     line_of_outcome outcome ≡ cannot_read_line name → status_of_outcome outcome ≡ 4 →
-    Runs (Some asked) next_load counts0 counts1 sizes0 sizes1 in0 in0 out0 out0 outcome
-runs_absent asked name next_load counts0 counts1 sizes0 sizes1 in0 out0 outcome named tells counted sizes line_is four = record {
+    Runs (Some asked) files0 files1 in0 in0 out0 out0 outcome
+runs_absent asked name files0 files1 in0 out0 outcome named tells moves counted sizes line_is four = record {
   file = Absent;
   built = None;
-  file_told = file_given asked name next_load Absent named tells;
+  store = view_in files1 (name_of asked);
+  notes = [];
+  file_told = file_given asked name (next files0.loads) Absent named tells;
   built_told = sizes;
-  loaded = λ _. file_loaded asked name counts0 counts1 Absent named counted;
+  loaded = λ _. file_loaded asked name files0.counts files1.counts Absent named counted;
+  behind = λ _. file_behind asked name files0 files1 named moves;
+  reloaded = (refl, refl);
   answers =
-      answers_quiet (told_file asked Absent None) (Some asked) in0 in0 out0 out0 outcome refl
+      answers_quiet (told_file asked Absent None []) (Some asked) in0 in0 out0 out0 outcome refl
       (λ to. refused_does to out0 (cannot_read_line (unwrap_or (file_asked asked) [])) 4 outcome (named_line asked name named outcome line_is)
       four)
       (refused_rests in0 out0 (cannot_read_line (unwrap_or (file_asked asked) [])) 4 outcome (named_line asked name named outcome line_is) four);
   usage = λ none. absurd (cc);
 }
 
-pub runs_failed : (asked : Asked) (name : List ℕ) (next_load : List ℕ → Option File) (counts0 counts1 : LoadCounts) (sizes0 sizes1 : ℕ)
-    (in0 : Input) (out0 : Output) (outcome : Outcome) →
-    file_asked asked ≡ Some name → Tells (next_load name) Failed → Counted counts0 counts1 Failed → sizes1 ≡ sizes0 →
+pub runs_failed : (asked : Asked) (name : List ℕ) (files0 files1 : Library) (in0 : Input) (out0 : Output) (outcome : Outcome) →
+    file_asked asked ≡ Some name → Tells (files0.loads name 0) Failed → MovesOn files0.loads files1.loads name →
+    Counted files0.counts files1.counts Failed → files1.sizes ≡ files0.sizes →
     line_of_outcome outcome ≡ cannot_read_line name → status_of_outcome outcome ≡ 4 →
-    Runs (Some asked) next_load counts0 counts1 sizes0 sizes1 in0 in0 out0 out0 outcome
-runs_failed asked name next_load counts0 counts1 sizes0 sizes1 in0 out0 outcome named tells counted sizes line_is four = record {
+    Runs (Some asked) files0 files1 in0 in0 out0 out0 outcome
+runs_failed asked name files0 files1 in0 out0 outcome named tells moves counted sizes line_is four = record {
   file = Failed;
   built = None;
-  file_told = file_given asked name next_load Failed named tells;
+  store = view_in files1 (name_of asked);
+  notes = [];
+  file_told = file_given asked name (next files0.loads) Failed named tells;
   built_told = sizes;
-  loaded = λ _. file_loaded asked name counts0 counts1 Failed named counted;
+  loaded = λ _. file_loaded asked name files0.counts files1.counts Failed named counted;
+  behind = λ _. file_behind asked name files0 files1 named moves;
+  reloaded = (refl, refl);
   answers =
-      answers_quiet (told_file asked Failed None) (Some asked) in0 in0 out0 out0 outcome refl
+      answers_quiet (told_file asked Failed None []) (Some asked) in0 in0 out0 out0 outcome refl
       (λ to. refused_does to out0 (cannot_read_line (unwrap_or (file_asked asked) [])) 4 outcome (named_line asked name named outcome line_is)
       four)
       (refused_rests in0 out0 (cannot_read_line (unwrap_or (file_asked asked) [])) 4 outcome (named_line asked name named outcome line_is) four);
@@ -603,32 +798,37 @@ some_given next_load None = (Got load_document, refl)
 some_given next_load (Some name) = some_load (next_load name)
 
 -- the file could not be loaded for want of memory
-pub runs_unloaded : (asked : Asked) (next_load : List ℕ → Option File) (counts0 counts1 : LoadCounts) (sizes0 sizes1 : ℕ) (in0 : Input)
-    (out0 : Output) → sizes1 ≡ sizes0 →
-    Runs (Some asked) next_load counts0 counts1 sizes0 sizes1 in0 in0 out0 out0 (Ended ends.Memory)
-runs_unloaded asked next_load counts0 counts1 sizes0 sizes1 in0 out0 sizes = let load = some_given next_load (file_asked asked) in record {
+pub runs_unloaded : (asked : Asked) (files0 files1 : Library) (in0 : Input) (out0 : Output) → files1.sizes ≡ files0.sizes →
+    Runs (Some asked) files0 files1 in0 in0 out0 out0 (Ended ends.Memory)
+runs_unloaded asked files0 files1 in0 out0 sizes = let load = some_given (next files0.loads) (file_asked asked) in record {
   file = load.0;
   built = None;
+  store = view_in files1 (name_of asked);
+  notes = [];
   file_told = load.1;
   built_told = sizes;
   loaded = λ not_one. absurd (not_one refl);
+  behind = λ not_one. absurd (not_one refl);
+  reloaded = reloads_unloaded asked load.0 (view_in files1 (name_of asked));
   answers =
-      answers_quiet (told_file asked load.0 None) (Some asked) in0 in0 out0 out0 (Ended ends.Memory) refl
-      (λ to. memory_does (told_file asked load.0 None [] false) to out0)
-      (memory_rests (told_file asked load.0 None [] false) in0 out0);
+      answers_quiet (told_file asked load.0 None []) (Some asked) in0 in0 out0 out0 (Ended ends.Memory) refl
+      (λ to. memory_does (told_file asked load.0 None [] [] false) to out0)
+      (memory_rests (told_file asked load.0 None [] [] false) in0 out0);
   usage = λ none. absurd (cc);
 }
 
 -- ---- the whole run
 
-pub ran : (asked : Option Asked) (next_load : List ℕ → Option File) (counts0 counts1 : LoadCounts) (sizes0 sizes1 : ℕ) (in0 in1 : Input)
-    (out0 out1 err0 err1 : Output) (outcome : Outcome) (sent : Sent) (status : ℕ) →
-    Runs asked next_load counts0 counts1 sizes0 sizes1 in0 in1 out0 out1 outcome → SendDid err0 err1 sent (line_of_outcome outcome) →
+pub ran : (asked : Option Asked) (files0 files1 : Library) (in0 in1 : Input) (out0 out1 err0 err1 : Output) (outcome : Outcome) (sent : Sent)
+    (status : ℕ) →
+    Runs asked files0 files1 in0 in1 out0 out1 outcome → SendDid err0 err1 sent (line_of_outcome outcome) →
     status ≡ status_of_outcome outcome →
-    Ran asked next_load counts0 counts1 sizes0 sizes1 in0 in1 out0 out1 err0 err1 status
-ran asked next_load counts0 counts1 sizes0 sizes1 in0 in1 out0 out1 err0 err1 outcome sent status runs says is = record {
+    Ran asked files0 files1 in0 in1 out0 out1 err0 err1 status
+ran asked files0 files1 in0 in1 out0 out1 err0 err1 outcome sent status runs says is = record {
   file = runs.file;
   built = runs.built;
+  store = runs.store;
+  notes = runs.notes;
   from = runs.answers.from;
   to = runs.answers.to;
   input = runs.answers.input;
@@ -638,14 +838,18 @@ ran asked next_load counts0 counts1 sizes0 sizes1 in0 in1 out0 out1 err0 err1 ou
   file_told = runs.file_told;
   built_told = runs.built_told;
   loaded = λ not_1. runs.loaded (λ one. not_1 (is ∙ one));
+  behind = λ not_1. runs.behind (λ one. not_1 (is ∙ one));
+  reloaded =
+      subst (λ (n : ℕ). Reloads (reloader_words asked runs.file runs.built) n runs.store (view_for asked files1) runs.notes) (sym is)
+      runs.reloaded;
   is_played = runs.answers.is_played;
   has_read = runs.answers.has_read;
   quiet = runs.answers.quiet;
   does =
-      subst (λ (n : ℕ). CarriesOut (told_words asked runs.file runs.built runs.answers.input runs.answers.read_failed)
+      subst (λ (n : ℕ). CarriesOut (told_words asked runs.file runs.built runs.notes runs.answers.input runs.answers.read_failed)
       runs.answers.to out0 out1 (line_of_outcome outcome) n) (sym is) runs.answers.does;
   rests = λ left.
-      subst (λ (n : ℕ). LeavesAlone (told_words asked runs.file runs.built runs.answers.input runs.answers.read_failed) in0 in1 out0 out1
-      (line_of_outcome outcome) n) (sym is) (runs.answers.rests left);
+      subst (λ (n : ℕ). LeavesAlone (told_words asked runs.file runs.built runs.notes runs.answers.input runs.answers.read_failed) in0 in1
+      out0 out1 (line_of_outcome outcome) n) (sym is) (runs.answers.rests left);
   said = says;
 }

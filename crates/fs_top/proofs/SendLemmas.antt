@@ -10,6 +10,7 @@ use denote.Param.Send.{IsSend, IsSync, shr_send, shr_sync, mut_send, mut_slice_s
 use denote.Param.SendFields.{declared_send, declared_sync, variants_send, as_row_send, as_row_sync}
 use denote.Builtin.{u32}
 use Rattle.std.specs.contracts.alloc.Global as Global
+use Rattle.std.below.core.specs.contracts.marker.ClosureMark as Mark
 use Rattle.std.proofs.Crossing.{crosses, Arc-send, Vec-send}
 use Rattle.fs_ports.specs.declared.port.Port as port
 use Rattle.fs_book.proofs.pass.Pass.TheSendSync as passes
@@ -23,6 +24,9 @@ use Rattle.fs_machine.specs.contracts.machine.Machine as Machine
 use Rattle.fs_machine.specs.contracts.offer.Offer as Offer
 use Rattle.fs_machine.specs.contracts.refusal.RouteRefusal as Refusal
 use Rattle.fs_machine.specs.contracts.turned.MachineTurned.TheImpl.{ghosts}
+use Rattle.fs_text.proofs.text.Txt.TheSendSync as text
+use Rattle.fs_text.specs.contracts.text.Txt as Txt
+use Rattle.fs_top.specs.contracts.desk.Desk as Desk
 use Rattle.fs_top.specs.contracts.lanes.Lane as Lane
 use Rattle.fs_top.specs.contracts.lanes.Staff as Staff
 use Rattle.fs_top.specs.contracts.slots.SlotLane as SlotLane
@@ -47,6 +51,12 @@ global_sync = search (crosses, sendable) depth 20
 
 pub number_sync : IsSync u32
 number_sync = search sendable depth 20
+
+pub text_sync : IsSync Txt.the_row
+text_sync = text.the_sync
+
+pub desk_send : IsSend Desk.the_row
+desk_send = declared_send Desk.the_type (search (crosses, sendable) depth 20, (pass_send, tt))
 
 pub conn_send : (T : RattleType) → IsSend T → IsSend (Conn.the_row T)
 conn_send T s = declared_send (Conn.the_type T) (search sendable depth 20, (as_row_send (row_field T) s, (search sendable depth 20, tt)))
@@ -115,6 +125,41 @@ slice_captures_send ν A B C D E F ℓ ℓ' ℓ'' ℓ''' κ κ' a b c d e f =
             (
               as_row_send (row_field (ShrRef κ.mir κ.lft E)) (shr_send κ.mir κ.lft E e),
               (as_row_send (row_field (MutSlice κ'.mir κ'.lft F)) (mut_slice_send κ'.mir κ'.lft F f), tt),
+            ),
+          ),
+        ),
+      ),
+    )
+
+-- what a closure has of a type that it names and captures nothing of
+mark_send : (T : RattleType) → IsSend (Mark.the_row T)
+mark_send T = declared_send (Mark.the_type T) tt
+
+-- what a closure captures: a `&` to each of four, a `&mut`, a `&` and a `&mut`; and it names a type more
+pub desk_captures_send : (ν : Sym) (A B C D E F G H : RattleType) (ℓ ℓ' ℓ'' ℓ''' κ κ' κ'' : NamedLft) → IsSync A → IsSync B → IsSync C →
+    IsSync D → IsSend E → IsSync F → IsSend G →
+    IsSend (TupleAt ν (ShrRef ℓ.mir ℓ.lft A ∷ ShrRef ℓ'.mir ℓ'.lft B ∷ ShrRef ℓ''.mir ℓ''.lft C ∷ ShrRef ℓ'''.mir ℓ'''.lft D
+    ∷ MutRef κ.mir κ.lft E ∷ ShrRef κ'.mir κ'.lft F ∷ MutRef κ''.mir κ''.lft G ∷ Mark.the_row H ∷ []))
+desk_captures_send ν A B C D E F G H ℓ ℓ' ℓ'' ℓ''' κ κ' κ'' a b c d e f g =
+    declared_send
+    (type_at ν (ShrRef ℓ.mir ℓ.lft A ∷ ShrRef ℓ'.mir ℓ'.lft B ∷ ShrRef ℓ''.mir ℓ''.lft C ∷ ShrRef ℓ'''.mir ℓ'''.lft D
+    ∷ MutRef κ.mir κ.lft E ∷ ShrRef κ'.mir κ'.lft F ∷ MutRef κ''.mir κ''.lft G ∷ Mark.the_row H ∷ [])) (
+      as_row_send (row_field (ShrRef ℓ.mir ℓ.lft A)) (shr_send ℓ.mir ℓ.lft A a),
+      (
+        as_row_send (row_field (ShrRef ℓ'.mir ℓ'.lft B)) (shr_send ℓ'.mir ℓ'.lft B b),
+        (
+          as_row_send (row_field (ShrRef ℓ''.mir ℓ''.lft C)) (shr_send ℓ''.mir ℓ''.lft C c),
+          (
+            as_row_send (row_field (ShrRef ℓ'''.mir ℓ'''.lft D)) (shr_send ℓ'''.mir ℓ'''.lft D d),
+            (
+              as_row_send (row_field (MutRef κ.mir κ.lft E)) (mut_send κ.mir κ.lft E e),
+              (
+                as_row_send (row_field (ShrRef κ'.mir κ'.lft F)) (shr_send κ'.mir κ'.lft F f),
+                (
+                  as_row_send (row_field (MutRef κ''.mir κ''.lft G)) (mut_send κ''.mir κ''.lft G g),
+                  (as_row_send (row_field (Mark.the_row H)) (mark_send H), tt),
+                ),
+              ),
             ),
           ),
         ),

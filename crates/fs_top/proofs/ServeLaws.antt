@@ -23,7 +23,7 @@ use Rattle.fs_seats.specs.Seats.{held_in}
 use Rattle.fs_state.specs.Switch.{Switch, empty, is_full, chan_at}
 use Rattle.fs_machine.specs.declared.entry.Entry.{Entry}
 use Rattle.fs_machine.specs.declared.entry.Act.{Act}
-use Rattle.fs_machine.specs.declared.entry.Act.TheVariants.{Arrive, Command, Take, Close, Dialed, Work, Job, Halt}
+use Rattle.fs_machine.specs.declared.entry.Act.TheVariants.{Arrive, Command, Take, Close, Dialed, Work, Job, Loaded, Halt}
 use Rattle.fs_machine.specs.declared.refusal.Refusal.TheVariants as refusal
 use Rattle.fs_machine.specs.Laws.{state_after}
 use Rattle.fs_machine.specs.Questions.{live}
@@ -70,6 +70,7 @@ halt_is entry h = by entry.moment entry.act h
     by moment (Dialed slot linked) h = absurd (cc)
     by moment (Work slot) h = absurd (cc)
     by moment (Job number) h = absurd (cc)
+    by moment (Loaded number note) h = absurd (cc)
     by moment Halt h = refl
 
 -- what holds where an entry halts the switch holds where one did

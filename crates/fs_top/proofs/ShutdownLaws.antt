@@ -46,7 +46,7 @@ use Rattle.fs_state.specs.declared.job.Job.{Job}
 use Rattle.fs_state.specs.declared.job.JobWork.{JobWork}
 use Rattle.fs_state.specs.declared.job.JobWork.TheVariants as work
 use Rattle.fs_state.specs.Switch.{Switch, chan_at, slot_named, is_full_of_jobs, job_of, with_new_job, without_job, without_orig, at_moment}
-use Rattle.fs_state.specs.Switch.{empty, next_orig_number}
+use Rattle.fs_state.specs.Switch.{empty, next_orig_number, passes_limit}
 use Rattle.fs_state.specs.Moves.{after_move, after_completion}
 use Rattle.fs_state.specs.Hangups.{lives_at, after_hangups}
 use Rattle.fs_state.specs.Bridging.{can_join, joined_as, after_join}
@@ -55,6 +55,7 @@ use Rattle.fs_machine.specs.declared.entry.Act.TheVariants as act
 use Rattle.fs_machine.specs.declared.entry.Closing.{Closing}
 use Rattle.fs_machine.specs.declared.entry.Closing.TheVariants as closing
 use Rattle.fs_machine.specs.declared.entry.Entry.{Entry}
+use Rattle.fs_machine.specs.declared.note.LoadNote.{LoadNote}
 use Rattle.fs_machine.specs.declared.refusal.Refusal.TheVariants as refusal
 use Rattle.fs_machine.specs.Api.{kill_done, variable_set_on, variable_set_at, dialed, chan_named}
 use Rattle.fs_machine.specs.Api.{done_plainly, done_expanded, done_over, done_by}
@@ -71,6 +72,7 @@ use Rattle.fs_machine.specs.Hangups.{all_slots}
 use Rattle.fs_machine.specs.Jobs.{told_if, after_run, after_job_work, job_done_from, job_done}
 use Rattle.fs_machine.specs.Joining.{both_left, both_queues_left, in_the_way, both_in_media, joined_done, bridged_unless, bridge_done_at}
 use Rattle.fs_machine.specs.Joining.{uuid_bridge_done, is_ready, queue_left}
+use Rattle.fs_machine.specs.Loading.{after_load}
 use Rattle.fs_machine.specs.Leaving.{after_departure, after_arrival, sent_at, sent_done}
 use Rattle.fs_machine.specs.Originations.{after_winning, group_made}
 use Rattle.fs_machine.specs.Owing.{after_owing, after_job_begin, background_begun, after_job_end}
@@ -85,6 +87,7 @@ use Rattle.fs_machine.proofs.JoinLemmas.{apart_now}
 use Rattle.fs_machine.proofs.Kept.{Fact, KeptByCalls, raced}
 use Rattle.fs_machine.proofs.RestLemmas.{Rest, rest_of, whichever, moved_rest, hung_rest, joined_rest, calls_by_rest, won_rest, group_made_rest}
 use Rattle.fs_machine.proofs.RestLemmas.{regrouped_rest, worked_rest}
+use Rattle.fs_machine.proofs.LoadLemmas.{load_kept}
 use Rattle.fs_machine.proofs.OrderLemmas.{none_refused, not_refused}
 use Rattle.fs_machine.proofs.RunLemmas.{run_more, is_run_more, runs_both}
 use Rattle.fs_machine.proofs.StillMoves.{stays_stopping}
@@ -228,6 +231,10 @@ module _ (by : _) (begins : (what : JobWork) (t : Switch) → (after_job_begin b
   plainly_stays (api.UuidDump uuid) s = inl refl
   plainly_stays (api.Hupall cause) s = inl (hung_stays (map (λ slot. (slot, cause)) (all_slots s)) s)
   plainly_stays api.Shutdown s = inr refl
+  plainly_stays api.Reloadxml s =
+      inl
+      (either_stays s (is_full_of_jobs s) _ _ refl
+      (either_stays s (passes_limit 1114241 s) _ _ refl (begins work.Load s)))
   plainly_stays (api.Originate url winner cid_name cid_number timeout) s =
       inl
       (either_stays s (is_full_of_jobs s) _ _ refl
@@ -437,6 +444,7 @@ worked_stays number s = by (job_of s number) refl
     works work.Run (asker.Background job) there = run_stays number job s there
     works (work.Sleep until) who there = inl (ended_stays number who ok s)
     works (work.Originate orig winner caller) who there = inl (tried_stays number orig who winner caller s)
+    works work.Load who there = inl refl
 
     by : (found : Option Job) → job_of s number ≡ found → ((job_done_from number found s).stopping ≡ s.stopping) ⊎ RunsFor number s
     by None there = inl refl
@@ -461,6 +469,11 @@ closed_stays closing.EndOfInput conn s = changed_stays (parted parting.EndOfInpu
 closed_stays closing.Sent conn s = let_go_stays conn s
 closed_stays closing.Failed conn s = let_go_stays conn s
 
+loaded_stays : (what : LoadNote) (number : ℕ) (s : Switch) → (after_load what number s).stopping ≡ s.stopping
+loaded_stays what number s =
+    load_kept (λ (t : Switch). t.stopping ≡ s.stopping) (λ (t : Switch). t.stopping ≡ s.stopping) (λ config globals t h. h) (λ t h. h)
+    (λ job who answer t does h. ended_stays job who answer t ∙ h) what number s refl
+
 -- an act leaves it so, is a halt, or runs the shutdown
 acted_stays : (a : Act) (s : Switch) → ((acted a s).state.stopping ≡ s.stopping) ⊎ ((a ≡ act.Halt) ⊎ ShutsDown a s)
 acted_stays act.Arrive s = inl refl
@@ -481,6 +494,7 @@ acted_stays (act.Job number) s = by (worked_stays number s)
         ((acted (act.Job number) s).state.stopping ≡ s.stopping) ⊎ ((act.Job number ≡ act.Halt) ⊎ ShutsDown (act.Job number) s)
     by (inl same) = inl same
     by (inr runs) = inr (inr runs)
+acted_stays (act.Loaded number note) s = inl (loaded_stays note number s)
 acted_stays act.Halt s = inr (inl refl)
 
 -- what an act runs it runs whenever it is
@@ -492,6 +506,7 @@ whenever (act.Close conn how) moment s shuts = shuts
 whenever (act.Dialed slot linked) moment s shuts = shuts
 whenever (act.Work slot) moment s shuts = shuts
 whenever (act.Job number) moment s shuts = (shuts.0, shuts.1, sym (run_at (api_of shuts.0.command) moment s) ∙ shuts.2)
+whenever (act.Loaded number note) moment s shuts = shuts
 whenever act.Halt moment s shuts = shuts
 
 -- ---- entries
@@ -525,6 +540,7 @@ halt_is entry h = by entry.moment entry.act h
     by moment (act.Dialed slot linked) h = absurd (cc)
     by moment (act.Work slot) h = absurd (cc)
     by moment (act.Job number) h = absurd (cc)
+    by moment (act.Loaded number note) h = absurd (cc)
     by moment act.Halt h = refl
 
 -- behind a halt a switch has come to its end

@@ -13,16 +13,17 @@ use Rattle.fs_machine.specs.declared.offer.Offer.{Offer}
 use Rattle.fs_machine.specs.declared.refusal.RouteRefusal.{RouteRefusal}
 use Rattle.fs_machine.specs.Runs.{View}
 use Rattle.fs_machine.specs.Turned.{configured}
+use Rattle.fs_top.specs.declared.desk.Desk.{Desk}
 use Rattle.fs_top.specs.declared.lanes.Staff.{Staff}
 use Rattle.fs_top.specs.declared.slots.SlotLane.{SlotLane}
 use Rattle.fs_top.specs.Dials.{HasRisen}
 use Rattle.fs_top.specs.Lanes.{Enters}
-use Rattle.fs_top.specs.Standing.{StaffStands, SlotHolds, DialsFailed, vain_of}
+use Rattle.fs_top.specs.Standing.{DeskStands, StaffStands, SlotHolds, DialsFailed, vain_of}
 use Rattle.fs_top.proofs.LaneLemmas.{keeps_may}
 
 entry_told : (may may' : ℕ → Type 0) (own : Option ℕ) → ((moment : ℕ) → may moment → may' moment) → (entry : Entry) →
     Enters may ⊥ own entry → Enters may' ⊥ own entry
-entry_told may may' own more entry entered = ((more entry.moment entered.0.0, entered.0.1), entered.1)
+entry_told may may' own more entry entered = ((more entry.moment entered.0.0, entered.0.1, entered.0.2), entered.1)
 
 pub staff_told : {L : Type 0} (input : L → Input) (output : L → Output) (may may' : ℕ → Type 0)
     (book : Book View Configuration Offer Entry Answer RouteRefusal) (staff : Staff L) → ((moment : ℕ) → may moment → may' moment)
@@ -33,6 +34,17 @@ staff_told input output may may' book staff more stands = record {
   keeps =
       keeps_may input output (Enters may ⊥ None) (Enters may' ⊥ None) (configured (opening_state book)) (seen staff.pass)
       (mine staff.pass ∷ met staff.pass) staff.conns.items (entry_told may may' None more) stands.keeps;
+}
+
+pub desk_told : {L : Type 0} (input : L → Input) (output : L → Output) (may may' : ℕ → Type 0)
+    (book : Book View Configuration Offer Entry Answer RouteRefusal) (desk : Desk) → ((moment : ℕ) → may moment → may' moment)
+    → DeskStands input output may book desk → DeskStands input output may' book desk
+desk_told input output may may' book desk more stands = record {
+  book_is = stands.book_is;
+  parts_is = stands.parts_is;
+  keeps =
+      keeps_may input output (Enters may ⊥ None) (Enters may' ⊥ None) (configured (opening_state book)) (seen desk.pass)
+      (mine desk.pass ∷ met desk.pass) [] (entry_told may may' None more) stands.keeps;
 }
 
 pub slot_told : {L O : Type 0} (input : L → Input) (output : L → Output) (may may' : ℕ → Type 0)

@@ -13,7 +13,7 @@ use Rattle.fs_book.specs.Opened.{Owned}
 use Rattle.fs_book.proofs.Lists.{last_get}
 use Rattle.fs_machine.specs.declared.entry.Entry.{Entry}
 use Rattle.fs_machine.specs.declared.entry.Act.{Act}
-use Rattle.fs_machine.specs.declared.entry.Act.TheVariants.{Arrive, Command, Take, Close, Dialed, Work, Job, Halt}
+use Rattle.fs_machine.specs.declared.entry.Act.TheVariants.{Arrive, Command, Take, Close, Dialed, Work, Job, Loaded, Halt}
 use Rattle.fs_machine.specs.Concerns.{actor_of}
 use Rattle.fs_machine.specs.Turned.{IsJournal, opens, names}
 use Rattle.fs_conn.specs.Owning.{OwnsConn}
@@ -23,7 +23,7 @@ use Rattle.fs_session.specs.Talking.{Counts, Opens, OpensNone, MayCount}
 use Rattle.fs_session.specs.Working.{Stays}
 use Rattle.fs_top.specs.declared.conns.Conn.{Conn}
 use Rattle.fs_top.specs.Dials.{tells_in_vain, is_in_vain, found_by, vain_in, HasRisen}
-use Rattle.fs_top.specs.Lanes.{Enters, Keeps}
+use Rattle.fs_top.specs.Lanes.{IsNotedWell, Enters, Keeps}
 use Rattle.fs_top.proofs.GatherLemmas.{keeps_split}
 use Rattle.fs_top.proofs.LaneLemmas.{keeps_served, gained_fails, keeps_entered, keeps_looked, run_behind}
 use Rattle.fs_top.proofs.PlaceLemmas.{count_none}
@@ -64,13 +64,14 @@ named_quiet slot conn (Take c) named = refl
 named_quiet slot conn (Close c how) named = refl
 named_quiet slot conn (Work other) named = refl
 named_quiet slot conn (Job number) named = refl
+named_quiet slot conn (Loaded number note) named = refl
 named_quiet slot conn Halt named = refl
 
 -- who told of a dial of its own slot may have
 dialed_enters : (may : ℕ → Type 0) (slot now : ℕ) (linked : Bool) (done : Act) → may now → done ≡ Dialed slot linked →
     Enters may ⊥ (Some slot) (record { moment = now; act = done })
 dialed_enters may slot now linked done told is = (
-  (told, λ halted. absurd (cc (is, halted))),
+  (told, λ halted. absurd (cc (is, halted)), subst IsNotedWell (sym is) tt),
   λ other link same.
       let e : Dialed slot linked ≡ Dialed other link = sym is ∙ same in
       let here : slot ≡ other = cc e in ap Some here,

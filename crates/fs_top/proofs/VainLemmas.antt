@@ -13,11 +13,11 @@ use Rattle.fs_book.specs.Counts.{times}
 use Rattle.fs_book.proofs.Lists.{prefix_trans, last_get}
 use Rattle.fs_machine.specs.declared.entry.Entry.{Entry}
 use Rattle.fs_machine.specs.declared.entry.Act.{Act}
-use Rattle.fs_machine.specs.declared.entry.Act.TheVariants.{Arrive, Command, Take, Close, Dialed, Work, Job, Halt}
+use Rattle.fs_machine.specs.declared.entry.Act.TheVariants.{Arrive, Command, Take, Close, Dialed, Work, Job, Loaded, Halt}
 use Rattle.fs_session.specs.declared.actor.Actor.{Actor}
 use Rattle.fs_session.specs.declared.actor.Actor.TheVariants.{Slot, Jobs}
 use Rattle.fs_session.specs.declared.worked.Worked.{Worked}
-use Rattle.fs_session.specs.declared.worked.Worked.TheVariants.{Did, Idle, Talk, Stopped, Refused}
+use Rattle.fs_session.specs.declared.worked.Worked.TheVariants.{Did, Idle, Talk, Load, Stopped, Refused}
 use Rattle.fs_session.specs.Talking.{Counts, MayCount}
 use Rattle.fs_session.specs.Working.{Works, Stays, Gained, IsTurnOf}
 use Rattle.fs_top.specs.Dials.{tells_in_vain, is_in_vain, found_by, vain_in, HasRisen, IsBounded, AreBounded}
@@ -92,6 +92,7 @@ module _ (config : Configuration) (seen seen' : List Entry) (mine mine' : List �
   vain_worked who now (Idle None) works = vain_stays works.stays
   vain_worked who now (Idle (Some next)) works = vain_stays works.stays
   vain_worked who now (Talk target) works = vain_stays works.stands.stays
+  vain_worked who now (Load job) works = vain_stays works.stays
   vain_worked who now Stopped works = vain_stays works.stays
   vain_worked who now (Refused why) works = vain_stays works.stays
 
@@ -114,6 +115,7 @@ act_quiet slot own (Take conn) its differs = refl
 act_quiet slot own (Close conn how) its differs = refl
 act_quiet slot own (Work other) its differs = refl
 act_quiet slot own (Job number) its differs = refl
+act_quiet slot own (Loaded number note) its differs = refl
 act_quiet slot own Halt its differs = refl
 
 pub vain_none : (may : ℕ → Type 0) (halts : Type 0) (own : Option ℕ) (config : Configuration) (seen : List Entry) (lists : List (List ℕ))

@@ -1,5 +1,5 @@
 -- What the program does with the configuration of a document.
-use Rattle.std.specs.Prelude.{ℕ, ◌-◌, ◌^◌, min, List, [], ◌∷◌, ◌++◌, length, map, Result, Ok, Err, codes}
+use Rattle.std.specs.Prelude.{ℕ, pos, ◌-◌, ◌^◌, min, List, [], ◌∷◌, ◌++◌, length, map, Result, Ok, Err, codes}
 use Rattle.std.specs.List.{concat}
 use Rattle.std.specs.Fmt.{decimal}
 use Rattle.fs_text.specs.Escape.{escape}
@@ -59,6 +59,6 @@ abbrev pub hunt_outcome : Result Hunt ℕ → List ℕ
 hunt_outcome (Ok hunt) = actions_text hunt.actions
 hunt_outcome (Err len) = too_long_hunt len
 
--- what `hunt` prints
+-- what `hunt` prints, at the minute of moment 0
 abbrev pub hunt_text : List Context → Variables → List ℕ → List ℕ → List ℕ
-hunt_text contexts globals context dest = hunt_outcome (hunted contexts context (hunt_profile context dest) no_variables globals)
+hunt_text contexts globals context dest = hunt_outcome (hunted contexts context (hunt_profile context dest) no_variables globals (pos 0))

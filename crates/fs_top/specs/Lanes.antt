@@ -9,7 +9,9 @@ use Rattle.fs_book.specs.Counts.{times, total}
 use Rattle.fs_book.specs.Opened.{OpensAt}
 use Rattle.fs_state.specs.Switch.{Switch, is_full}
 use Rattle.fs_machine.specs.declared.entry.Entry.{Entry}
-use Rattle.fs_machine.specs.declared.entry.Act.TheVariants.{Dialed, Halt}
+use Rattle.fs_machine.specs.declared.entry.Act.{Act}
+use Rattle.fs_machine.specs.declared.entry.Act.TheVariants.{Arrive, Command, Take, Close, Dialed, Work, Job, Loaded, Halt}
+use Rattle.fs_machine.specs.Loading.{IsBuiltAsNoted}
 use Rattle.fs_machine.specs.Laws.{state_after}
 use Rattle.fs_machine.specs.Questions.{live}
 use Rattle.fs_machine.specs.Turned.{IsJournal, opens}
@@ -54,9 +56,21 @@ module _ (config : Configuration) (seen : List Entry) (lists : List (List ℕ)) 
       (k : ℕ) (places : List ℕ) → get_elem? lists k ≡ some places → (p : ℕ) (entry : Entry) → 0 < times p places
       → slice_get seen p ≡ Some entry → may entry
 
--- the entry has a moment that may be told, and where it halts the switch this holds
+-- what an act notes of a load is so: the document has that fault, or its patterns are as it says
+abbrev pub IsNotedWell : Act → Type 0
+IsNotedWell Arrive = Unit {0}
+IsNotedWell (Command conn block) = Unit {0}
+IsNotedWell (Take conn) = Unit {0}
+IsNotedWell (Close conn how) = Unit {0}
+IsNotedWell (Dialed slot linked) = Unit {0}
+IsNotedWell (Work slot) = Unit {0}
+IsNotedWell (Job number) = Unit {0}
+IsNotedWell (Loaded number note) = IsBuiltAsNoted note
+IsNotedWell Halt = Unit {0}
+
+-- the entry has a moment that may be told, and where it halts the switch this holds; what it notes of a load is so
 abbrev pub MayEnter : (ℕ → Type 0) → Type 0 → Entry → Type 0
-MayEnter may halts entry = may entry.moment × (entry.act ≡ Halt → halts)
+MayEnter may halts entry = may entry.moment × (entry.act ≡ Halt → halts) × IsNotedWell entry.act
 
 -- The entry may be entered where the pass belongs to whoever works a slot, or to somebody else, who enters nothing of any dial: only of that
 -- slot it tells what came of one.

@@ -1,11 +1,12 @@
 -- What a run of the program does, and the causes of its statuses.
-use Rattle.std.specs.Prelude.{◌≡◌, ◌≢◌, ℕ, Bool, true, false, IsTrue, List, All, [], ◌++◌, Option, None, Some, IfSome, Ok, Err, ◌⊎◌}
+use Rattle.std.specs.Prelude.{◌≡◌, ◌≢◌, ℕ, ◌+◌, Bool, true, false, IsTrue, List, All, [], ◌++◌, Option, None, Some, IfSome, unwrap_or, Ok, Err, ◌⊎◌}
+use Rattle.std.specs.Prelude.{Result}
 use Rattle.std.specs.Prelude.{if◌then◌else◌}
 use Rattle.std.specs.Io.KnownBytes.{IsAtEnd}
 use Rattle.fs_ports.specs.Counts.{raised}
 use Rattle.fs_ports.specs.Ports.{Input, Output, Writes, Stopped, SendDid}
 use Rattle.fs_ports.specs.declared.send.Sent.{Sent}
-use Rattle.fs_ports.specs.Loads.{LoadCounts, Tells, Counted}
+use Rattle.fs_ports.specs.Loads.{LoadCounts, Tells, Counted, next}
 use Rattle.fs_ports.specs.declared.files.Load.{Load as File}
 use Rattle.fs_ports.specs.declared.files.Load.TheVariants.{Got, Absent, Failed}
 use Rattle.fs_load.specs.Calls.{load_input, input_left}
@@ -25,7 +26,10 @@ use Rattle.fs_machine.specs.declared.entry.Entry.{Entry}
 use Rattle.fs_conn.specs.declared.end.End.TheVariants as ends
 use Rattle.fs_conn.specs.Play.{switch_of, end_for, played}
 use Rattle.fs_conn.specs.Turns.{HasRead, Plays}
-use Rattle.fs_conn.specs.Ends.{IsFullAt}
+use Rattle.fs_conn.specs.Ends.{IsFullAt, IsFullForLoadAt}
+use Rattle.fs_conn.specs.Filed.{FileView, file_view}
+use Rattle.fs_conn.specs.Loads.{HasLoaded, HasLoadedOrBegun}
+use Rattle.fs_machine.specs.declared.note.LoadNote.{LoadNote}
 use Rattle.fs_top.specs.Told.{Told, Asked, Check, Hunt, Play, Load, file_asked, told_calls, told_asked, told_built, told_file, told_words}
 use Rattle.fs_top.specs.Told.{line_of_end, status_of_end, usage_line, cannot_read_line, fault_line, pattern_line, write_fault_line, memory_line}
 use Rattle.fs_top.specs.declared.outcome.Outcome.{Outcome}
@@ -49,14 +53,14 @@ status_of_outcome (BadPattern fault) = 3
 status_of_outcome Printed = 0
 status_of_outcome (Ended end) = status_of_end end
 
--- what playing a connection came to, over a switch of this configuration
-abbrev pub PlaysTo : Configuration → Input → Output → Input → Output → Outcome → Type 0
-PlaysTo c in0 out0 in1 out1 Usage = ⊥
-PlaysTo c in0 out0 in1 out1 (CannotRead name) = ⊥
-PlaysTo c in0 out0 in1 out1 (BadDocument fault) = ⊥
-PlaysTo c in0 out0 in1 out1 (BadPattern fault) = ⊥
-PlaysTo c in0 out0 in1 out1 Printed = ⊥
-PlaysTo c in0 out0 in1 out1 (Ended end) = (journal : List Entry) × Plays c in0 out0 in1 out1 journal end
+-- what playing a connection came to, over a switch of this configuration, where these are the notes of its loads
+abbrev pub PlaysTo : Configuration → List LoadNote → Input → Output → Input → Output → Outcome → Type 0
+PlaysTo c notes in0 out0 in1 out1 Usage = ⊥
+PlaysTo c notes in0 out0 in1 out1 (CannotRead name) = ⊥
+PlaysTo c notes in0 out0 in1 out1 (BadDocument fault) = ⊥
+PlaysTo c notes in0 out0 in1 out1 (BadPattern fault) = ⊥
+PlaysTo c notes in0 out0 in1 out1 Printed = ⊥
+PlaysTo c notes in0 out0 in1 out1 (Ended end) = (journal : List Entry) × Plays c notes in0 out0 in1 out1 journal end
 
 -- all was answered as it is told
 pub record Completes (told : Told) (in1 : Input) (out0 out1 : Output) (line : List ℕ) (status : ℕ) : Type 0 where
@@ -157,7 +161,8 @@ pub record Loads (c : Configuration) (count start : ℕ) (out0 out1 : Output) (o
   pub input : List ℕ
   pub has_read : HasRead (input_left (load_input count start)) to input false
   pub faults : to.faults ≡ 0
-  pub does : CarriesOutAs (told_calls count (played c input false)) to out0 out1 outcome
+  pub notes : List LoadNote
+  pub does : CarriesOutAs (told_calls count (played c input false notes)) to out0 out1 outcome
 
 -- the pattern that was refused is one of the document in this file, and the count of large patterns rose only where it is too large
 abbrev pub IsBuilt : File → Option PlanFault → ℕ → ℕ → Type 0
@@ -167,19 +172,90 @@ IsBuilt (Got bytes) (Some fault) sizes0 sizes1 =
 IsBuilt Absent (Some fault) sizes0 sizes1 = ⊥
 IsBuilt Failed (Some fault) sizes0 sizes1 = ⊥
 
+-- who loads the file again: nobody; a play of it; or calls that are made over no file, of whose loads nothing is told
+pub data Reloader : Type 0 where
+  Nobody : Reloader
+  Player : Reloader
+  Caller : Reloader
+
+-- who does for these words, once the patterns are built
+abbrev pub reloader_of : Asked → Reloader
+reloader_of (Check file) = Nobody
+reloader_of (Hunt file context dest) = Nobody
+reloader_of (Play file) = Player
+reloader_of (Load count start) = Caller
+
+-- who does where a pattern was refused, or none
+abbrev pub reloader_built : Asked → Option PlanFault → Reloader
+reloader_built asked None = reloader_of asked
+reloader_built asked (Some fault) = Nobody
+
+-- who does for what a document is read as
+abbrev pub reloader_read : Asked → Result Configuration DocFault → Option PlanFault → Reloader
+reloader_read asked (Ok c) built = reloader_built asked built
+reloader_read asked (Err fault) built = Nobody
+
+-- who does for what the file gave
+abbrev pub reloader_file : Asked → File → Option PlanFault → Reloader
+reloader_file asked (Got bytes) built = reloader_read asked (config_of bytes) built
+reloader_file asked Absent built = Nobody
+reloader_file asked Failed built = Nobody
+
+abbrev pub reloader_words : Option Asked → File → Option PlanFault → Reloader
+reloader_words None file built = Nobody
+reloader_words (Some asked) file built = reloader_file asked file built
+
+-- What later loads made of what is told of the file, behind the first one; these are their notes. Where memory was wanting one more load may
+-- have been begun.
+abbrev pub Reloads : Reloader → ℕ → FileView → FileView → List LoadNote → Type 0
+Reloads Nobody status old new notes = (notes ≡ []) × (new ≡ old)
+Reloads Player status old new notes = HasLoadedOrBegun old new notes × (status ≢ 1 → HasLoaded old new notes)
+Reloads Caller status old new notes = new ≡ old
+
+-- so by an outcome
+abbrev pub ReloadsAs : Reloader → Outcome → FileView → FileView → List LoadNote → Type 0
+ReloadsAs who outcome old new notes = Reloads who (status_of_outcome outcome) old new notes
+
+-- what playing a connection over a switch of this configuration came to, with what its loads made of what is told of the file
+pub record PlaysAnew (c : Configuration) (view0 view1 : FileView) (in0 : Input) (out0 : Output) (in1 : Input) (out1 : Output)
+    (outcome : Outcome) : Type 0 where
+  pub notes : List LoadNote
+  pub reloaded : ReloadsAs Player outcome view0 view1 notes
+  pub plays : PlaysTo c notes in0 out0 in1 out1 outcome
+
+-- building patterns leaves what is told of loads and what was counted of them as it was
+pub record KeepsLoads (old new : FileView) : Type 0 where
+  pub loads : new.loads ≡ old.loads
+  pub counts : new.counts ≡ old.counts
+
+-- what was answered over a configuration whose patterns were built
+pub record OverPlan (asked : Asked) (c : Configuration) (view0 view1 : FileView) (in0 in1 : Input) (out0 out1 : Output)
+    (outcome : Outcome) : Type 0 where
+  pub notes : List LoadNote
+  pub reloaded : ReloadsAs (reloader_of asked) outcome view0 view1 notes
+  pub answers : Answers (told_asked asked c notes) (Some asked) in0 in1 out0 out1 outcome
+
 -- what was answered over a configuration: a pattern of it was refused, or what is asked was done
-pub record OverConfig (asked : Asked) (c : Configuration) (sizes0 sizes1 : ℕ) (in0 in1 : Input) (out0 out1 : Output)
+pub record OverConfig (asked : Asked) (c : Configuration) (view0 view1 : FileView) (in0 in1 : Input) (out0 out1 : Output)
     (outcome : Outcome) : Type 0 where
   pub built : Option PlanFault
-  pub built_told : IsPlanBuiltOf c built sizes0 sizes1
-  pub answers : Answers (told_built asked c built) (Some asked) in0 in1 out0 out1 outcome
+  pub store : FileView
+  pub notes : List LoadNote
+  pub built_told : IsPlanBuiltOf c built view0.sizes store.sizes
+  pub kept : KeepsLoads view0 store
+  pub reloaded : ReloadsAs (reloader_built asked built) outcome store view1 notes
+  pub answers : Answers (told_built asked c built notes) (Some asked) in0 in1 out0 out1 outcome
 
 -- what was answered over the bytes of a document
-pub record OverBytes (asked : Asked) (bytes : List ℕ) (sizes0 sizes1 : ℕ) (in0 in1 : Input) (out0 out1 : Output)
+pub record OverBytes (asked : Asked) (bytes : List ℕ) (view0 view1 : FileView) (in0 in1 : Input) (out0 out1 : Output)
     (outcome : Outcome) : Type 0 where
   pub built : Option PlanFault
-  pub built_told : IsBuilt (Got bytes) built sizes0 sizes1
-  pub answers : Answers (told_file asked (Got bytes) built) (Some asked) in0 in1 out0 out1 outcome
+  pub store : FileView
+  pub notes : List LoadNote
+  pub built_told : IsBuilt (Got bytes) built view0.sizes store.sizes
+  pub kept : KeepsLoads view0 store
+  pub reloaded : ReloadsAs (reloader_file asked (Got bytes) built) outcome store view1 notes
+  pub answers : Answers (told_file asked (Got bytes) built notes) (Some asked) in0 in1 out0 out1 outcome
 
 -- memory was wanting for a document
 abbrev pub is_memory : DocKind → Bool
@@ -211,37 +287,71 @@ abbrev pub Loaded : Option Asked → LoadCounts → LoadCounts → File → Type
 Loaded None old new file = new ≡ old
 Loaded (Some asked) old new file = LoadedAs (file_asked asked) old new file
 
--- the run answers as it is told where the words ask for this, or have no form, for what the file gave, for the pattern that was refused,
--- and for what was taken from the link
-pub record Runs (asked : Option Asked) (next_load : List ℕ → Option File) (counts0 counts1 : LoadCounts) (sizes0 sizes1 : ℕ)
-    (in0 in1 : Input) (out0 out1 : Output) (outcome : Outcome) : Type 0 where
+-- what files tell of the loads to come, by name, and what they have counted
+pub record Library : Type 0 where
+  pub loads : List ℕ → ℕ → Option File
+  pub counts : LoadCounts
+  pub sizes : ℕ
+
+abbrev pub library : (List ℕ → ℕ → Option File) → LoadCounts → ℕ → Library
+library loads counts sizes = record { loads = loads; counts = counts; sizes = sizes }
+
+-- what they tell of the file of a name
+abbrev pub view_in : Library → List ℕ → FileView
+view_in files name = file_view (files.loads name) files.counts files.sizes
+
+-- the name of the file that is asked for; an empty one where none is
+abbrev pub name_of : Asked → List ℕ
+name_of asked = unwrap_or (file_asked asked) []
+
+-- what they tell of that file
+abbrev pub view_for : Option Asked → Library → FileView
+view_for None files = view_in files []
+view_for (Some asked) files = view_in files (name_of asked)
+
+-- the loads that are told behind the first one of a file are those behind it, if there was one
+abbrev pub AreBehind : Library → FileView → Option (List ℕ) → Type 0
+AreBehind files store None = Unit {0}
+AreBehind files store (Some name) = (k : ℕ) → store.loads k ≡ files.loads name (k + 1)
+
+-- the run answers as it is told where the words ask for this, or have no form, for what the file gave, for the pattern that was refused, for
+-- the notes of the loads behind the first one, and for what was taken from the link
+pub record Runs (asked : Option Asked) (files0 files1 : Library) (in0 in1 : Input) (out0 out1 : Output) (outcome : Outcome) : Type 0 where
   pub file : File
   pub built : Option PlanFault
-  pub file_told : IfSome asked (λ a. Gives next_load (file_asked a) file)
-  pub built_told : IsBuilt file built sizes0 sizes1
-  pub loaded : status_of_outcome outcome ≢ 1 → Loaded asked counts0 counts1 file
-  pub answers : Answers (told_words asked file built) asked in0 in1 out0 out1 outcome
+  pub store : FileView
+  pub notes : List LoadNote
+  pub file_told : IfSome asked (λ a. Gives (next files0.loads) (file_asked a) file)
+  pub built_told : IsBuilt file built files0.sizes store.sizes
+  pub loaded : status_of_outcome outcome ≢ 1 → Loaded asked files0.counts store.counts file
+  pub behind : status_of_outcome outcome ≢ 1 → IfSome asked (λ a. AreBehind files0 store (file_asked a))
+  pub reloaded : ReloadsAs (reloader_words asked file built) outcome store (view_for asked files1) notes
+  pub answers : Answers (told_words asked file built notes) asked in0 in1 out0 out1 outcome
   pub usage : asked ≡ None → status_of_outcome outcome ≡ 2
 
 -- a run, with the line that it printed
-pub record Ran (asked : Option Asked) (next_load : List ℕ → Option File) (counts0 counts1 : LoadCounts) (sizes0 sizes1 : ℕ)
-    (in0 in1 : Input) (out0 out1 err0 err1 : Output) (status : ℕ) : Type 0 where
+pub record Ran (asked : Option Asked) (files0 files1 : Library) (in0 in1 : Input) (out0 out1 err0 err1 : Output) (status : ℕ)
+    : Type 0 where
   pub file : File
   pub built : Option PlanFault
+  pub store : FileView
+  pub notes : List LoadNote
   pub from : Input
   pub to : Input
   pub input : List ℕ
   pub read_failed : Bool
   pub line : List ℕ
   pub sent : Sent
-  pub file_told : IfSome asked (λ a. Gives next_load (file_asked a) file)
-  pub built_told : IsBuilt file built sizes0 sizes1
-  pub loaded : status ≢ 1 → Loaded asked counts0 counts1 file
+  pub file_told : IfSome asked (λ a. Gives (next files0.loads) (file_asked a) file)
+  pub built_told : IsBuilt file built files0.sizes store.sizes
+  pub loaded : status ≢ 1 → Loaded asked files0.counts store.counts file
+  pub behind : status ≢ 1 → IfSome asked (λ a. AreBehind files0 store (file_asked a))
+  pub reloaded : Reloads (reloader_words asked file built) status store (view_for asked files1) notes
   pub is_played : IsPlayed asked in0 in1 from to
   pub has_read : HasRead from to input read_failed
   pub quiet : ReadsNothing asked → in1 ≡ in0
-  pub does : CarriesOut (told_words asked file built input read_failed) to out0 out1 line status
-  pub rests : RestsIfTold (told_words asked file built input read_failed) in0 in1 out0 out1 line status
+  pub does : CarriesOut (told_words asked file built notes input read_failed) to out0 out1 line status
+  pub rests : RestsIfTold (told_words asked file built notes input read_failed) in0 in1 out0 out1 line status
   pub said : SendDid err0 err1 sent line
 
 -- the file that is asked for is read as this configuration
@@ -281,11 +391,13 @@ pub record MeetsBadBlock (asked : Option Asked) (c : Configuration) (in0 in1 : I
   pub read_failed : Bool
   pub is_played : IsPlayed asked in0 in1 from to
   pub has_read : HasRead from to input read_failed
+  pub notes : List LoadNote
   pub fault : Fault
   pub is_bad : fault_of (rest_of input) ≡ Some fault
-  pub end_is : (played c input read_failed).end ≡ Some (end_for fault)
+  pub end_is : (played c input read_failed notes).end ≡ Some (end_for fault)
 
--- the journal of what was taken is full behind its last entry, and was to have a further one
+-- the journal of what was taken is full behind its last entry, and was to have a further one; or it has no room for a load, and a job waits
+-- for one
 pub record FillsJournal (asked : Option Asked) (c : Configuration) (in0 in1 : Input) : Type 0 where
   pub from : Input
   pub to : Input
@@ -293,10 +405,12 @@ pub record FillsJournal (asked : Option Asked) (c : Configuration) (in0 in1 : In
   pub read_failed : Bool
   pub is_played : IsPlayed asked in0 in1 from to
   pub has_read : HasRead from to input read_failed
+  pub notes : List LoadNote
   pub cost_told : ℕ
   pub limit_told : ℕ
-  pub end_is : (played c input read_failed).end ≡ Some (ends.JournalFull cost_told limit_told)
-  pub full : IsFullAt cost_told limit_told (switch_of (played c input read_failed))
+  pub end_is : (played c input read_failed notes).end ≡ Some (ends.JournalFull cost_told limit_told)
+  pub full : IsFullAt cost_told limit_told (switch_of (played c input read_failed notes))
+      ⊎ IsFullForLoadAt cost_told limit_told (played c input read_failed notes)
   pub limit_is : limit_told ≡ c.settings.journal_limit
 
 -- channels and jobs of what was taken do not come to rest at some moment
@@ -307,7 +421,8 @@ pub record RunsAway (asked : Option Asked) (c : Configuration) (in0 in1 : Input)
   pub read_failed : Bool
   pub is_played : IsPlayed asked in0 in1 from to
   pub has_read : HasRead from to input read_failed
-  pub end_is : (played c input read_failed).end ≡ Some (ends.Runaway 100000)
+  pub notes : List LoadNote
+  pub end_is : (played c input read_failed notes).end ≡ Some (ends.Runaway 100000)
 
 -- ---- completeness
 
@@ -343,6 +458,7 @@ pub record DoesAll (asked : Asked) (c : Configuration) (in0 in1 : Input) (out0 o
   pub sent : Sent
   pub is_played : IsPlayed (Some asked) in0 in1 from to
   pub has_read : HasRead from to input false
-  pub does : Completes (told_asked asked c input false) to out0 out1 line status
-      ⊎ BreaksForMemory (told_asked asked c input false) out0 out1 line status
+  pub notes : List LoadNote
+  pub does : Completes (told_asked asked c notes input false) to out0 out1 line status
+      ⊎ BreaksForMemory (told_asked asked c notes input false) out0 out1 line status
   pub said : SendDid err0 err1 sent line

@@ -12,6 +12,7 @@ use Rattle.fs_machine.specs.declared.refusal.RouteRefusal.{RouteRefusal}
 use Rattle.fs_machine.specs.Runs.{View}
 use Rattle.fs_machine.specs.Turned.{configured}
 use Rattle.fs_top.specs.declared.conns.Conn.{Conn}
+use Rattle.fs_top.specs.declared.desk.Desk.{Desk}
 use Rattle.fs_top.specs.declared.lanes.Lane.{Lane}
 use Rattle.fs_top.specs.declared.lanes.Lane.TheVariants.{Slot, Staff}
 use Rattle.fs_top.specs.declared.lanes.Staff.{Staff as StaffLane}
@@ -26,6 +27,13 @@ pub record StaffStands {L : Type 0} (input : L → Input) (output : L → Output
   pub parts_is : parts staff.pass ≡ 2
   pub keeps : Keeps input output (Enters may ⊥ None) (configured (opening_state book)) (seen staff.pass) (mine staff.pass ∷ met staff.pass)
       staff.conns.items
+
+-- the desk: its pass is of the book and has two parts, it serves nobody, never halts the switch, nor tells what came of a dial
+pub record DeskStands {L : Type 0} (input : L → Input) (output : L → Output) (may : ℕ → Type 0)
+    (book : Book View Configuration Offer Entry Answer RouteRefusal) (desk : Desk) : Type 0 where
+  pub book_is : IsPassOf configured book desk.pass
+  pub parts_is : parts desk.pass ≡ 2
+  pub keeps : Keeps input output (Enters may ⊥ None) (configured (opening_state book)) (seen desk.pass) (mine desk.pass ∷ met desk.pass) []
 
 module _ {L O : Type 0} where
   -- The lane is that of a slot, its pass is of the book and has so many parts, it keeps its connections, never halts the switch, and tells

@@ -14,6 +14,7 @@ use Rattle.fs_plan.specs.declared.fault.PlanFault.{PlanFault}
 use Rattle.fs_plan.specs.declared.fault.PlanFault.TheVariants.{PatternRefused, PatternTooLarge, Memory}
 use Rattle.fs_conn.specs.declared.end.End.{End}
 use Rattle.fs_conn.specs.declared.end.End.TheVariants as ends
+use Rattle.fs_machine.specs.declared.note.LoadNote.{LoadNote}
 use Rattle.fs_conn.specs.Play as plays
 use Rattle.fs_state.specs.Counts.{Tallies}
 use Rattle.fs_top.specs.Documents.{check_text, hunt_text}
@@ -205,34 +206,36 @@ abbrev pub told_text : List ℕ → Told
 told_text output = record { output = output; line = []; status = 0; at_end = false; untouched = false }
 
 -- what is answered over a configuration
-abbrev pub told_asked : Asked → Configuration → List ℕ → Bool → Told
-told_asked (Check file) c input read_failed = told_text (check_text c.contexts)
-told_asked (Hunt file context dest) c input read_failed = told_text (hunt_text c.contexts c.globals context dest)
-told_asked (Play file) c input read_failed = told_play c (plays.played c input read_failed)
-told_asked (Load count start) c input read_failed = told_calls count (plays.played c input read_failed)
+abbrev pub told_asked : Asked → Configuration → List LoadNote → List ℕ → Bool → Told
+told_asked (Check file) c notes input read_failed = told_text (check_text c.contexts)
+told_asked (Hunt file context dest) c notes input read_failed = told_text (hunt_text c.contexts c.globals context dest)
+told_asked (Play file) c notes input read_failed = told_play c (plays.played c input read_failed notes)
+told_asked (Load count start) c notes input read_failed = told_calls count (plays.played c input read_failed notes)
 
 -- what is answered over a configuration of which a pattern was refused, or none
-abbrev pub told_built : Asked → Configuration → Option PlanFault → List ℕ → Bool → Told
-told_built asked c None input read_failed = told_asked asked c input read_failed
-told_built asked c (Some fault) input read_failed = refused (pattern_line fault) 3
+abbrev pub told_built : Asked → Configuration → Option PlanFault → List LoadNote → List ℕ → Bool → Told
+told_built asked c None notes input read_failed = told_asked asked c notes input read_failed
+told_built asked c (Some fault) notes input read_failed = refused (pattern_line fault) 3
 
 -- what is answered for what a document is read as
-abbrev pub told_read : Asked → Result Configuration DocFault → Option PlanFault → List ℕ → Bool → Told
-told_read asked (Ok c) built input read_failed = told_built asked c built input read_failed
-told_read asked (Err fault) built input read_failed = refused (fault_line fault) 3
+abbrev pub told_read : Asked → Result Configuration DocFault → Option PlanFault → List LoadNote → List ℕ → Bool → Told
+told_read asked (Ok c) built notes input read_failed = told_built asked c built notes input read_failed
+told_read asked (Err fault) built notes input read_failed = refused (fault_line fault) 3
 
 -- what is answered once the file gave this
-abbrev pub told_file : Asked → File → Option PlanFault → List ℕ → Bool → Told
-told_file asked (Got bytes) built input read_failed = told_read asked (config_of bytes) built input read_failed
-told_file asked Absent built input read_failed = refused (cannot_read_line (unwrap_or (file_asked asked) [])) 4
-told_file asked Failed built input read_failed = refused (cannot_read_line (unwrap_or (file_asked asked) [])) 4
+abbrev pub told_file : Asked → File → Option PlanFault → List LoadNote → List ℕ → Bool → Told
+told_file asked (Got bytes) built notes input read_failed = told_read asked (config_of bytes) built notes input read_failed
+told_file asked Absent built notes input read_failed = refused (cannot_read_line (unwrap_or (file_asked asked) [])) 4
+told_file asked Failed built notes input read_failed = refused (cannot_read_line (unwrap_or (file_asked asked) [])) 4
 
 -- what the program answers where its words ask for this, or have no form, where the file gives this, where this pattern is refused, or
--- none, and these bytes are taken from the link that is played before its reading ends or fails
-abbrev pub told_words : Option Asked → File → Option PlanFault → List ℕ → Bool → Told
-told_words None file built input read_failed = refused usage_line 2
-told_words (Some asked) file built input read_failed = told_file asked file built input read_failed
+-- none, these are the notes of the loads behind that one, and these bytes are taken from the link that is played before its reading ends or
+-- fails
+abbrev pub told_words : Option Asked → File → Option PlanFault → List LoadNote → List ℕ → Bool → Told
+told_words None file built notes input read_failed = refused usage_line 2
+told_words (Some asked) file built notes input read_failed = told_file asked file built notes input read_failed
 
--- what the program answers to these words, over what the file gives, a refused pattern or none, and these bytes of the link
-abbrev pub told_run : List (List ℕ) → File → Option PlanFault → List ℕ → Bool → Told
-told_run words file built input read_failed = told_words (asked_by words) file built input read_failed
+-- what the program answers to these words, over what the file gives, a refused pattern or none, the notes of later loads, and these bytes of
+-- the link
+abbrev pub told_run : List (List ℕ) → File → Option PlanFault → List LoadNote → List ℕ → Bool → Told
+told_run words file built notes input read_failed = told_words (asked_by words) file built notes input read_failed

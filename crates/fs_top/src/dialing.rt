@@ -60,6 +60,8 @@ fn work_slot<R: Threads + Wait + Sync, L: Link, O: Dialer<Link = L>, C: Clock, G
     'talks: for _ in rt.forever() {
         match run_lane_turns(rt, book, clock, gates, lane) {
             Pause::Talk(target) => talk(rt, book, clock, gates, &target, lane),
+            // A slot has no jobs.
+            Pause::Load(_) => {}
             Pause::Over => return,
         }
     }

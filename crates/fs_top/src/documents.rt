@@ -1,6 +1,6 @@
 //! What `check` and `hunt` print over a configuration.
 
-ghost use Rattle.std.specs.Prelude.{◌≡◌, ◌++◌, map, Ok, IfOk, IfErr, OnOk};
+ghost use Rattle.std.specs.Prelude.{◌≡◌, ◌++◌, pos, map, Ok, IfOk, IfErr, OnOk};
 ghost use Rattle.std.specs.List.{concat};
 ghost use Rattle.fs_plan.specs.Hunting.{hunted};
 ghost use Rattle.fs_plan.specs.Outcomes.{IsFault};
@@ -66,16 +66,16 @@ fn hunt(
     dest: &Txt,
 ) -> Result<Hunt, Refused>
     ensures found { IfOk result (λ hunt. hunted plan.now context.now (spec.hunt_profile context.now dest.now)
-        spec.no_variables globals.now ≡ Ok hunt) }
+        spec.no_variables globals.now (pos 0) ≡ Ok hunt) }
     ensures too_long { IfErr result (IsFault (hunted plan.now context.now (spec.hunt_profile context.now dest.now)
-        spec.no_variables globals.now)) }
+        spec.no_variables globals.now (pos 0))) }
 {
     let scope = Scope {
         vars: &Vars::new(alloc, Bounds::Channel)?,
         profile: &hunt_profile(alloc, context, dest)?,
         globals,
     };
-    plan.hunt(alloc, &scope, context.as_bytes(), &mut NoGate)
+    plan.hunt(alloc, &scope, context.as_bytes(), 0, &mut NoGate)
 }
 
 // The profile of a call to this number in this context.

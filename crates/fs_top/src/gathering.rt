@@ -9,6 +9,7 @@ ghost use Rattle.fs_top.specs.Headline.{Headline};
 ghost use Rattle.fs_top.specs.Dials.{vain_dials, vain_in, AreBounded};
 ghost use Rattle.fs_top.specs.Lanes.{Keeps, MayEnter};
 ghost use Rattle.fs_top.specs.Standing.{
+  DeskStands,
   StaffStands,
   SlotStands,
   Stands,
@@ -22,7 +23,8 @@ ghost use Rattle.fs_top.specs.Standing.{
 
 use crate::came::Came;
 use crate::conns::Conn;
-use crate::lanes::{Lane, Staff, StaffKind};
+use crate::desk::Desk;
+use crate::lanes::{Lane, Staff};
 use crate::slots::SlotLane;
 use fs_book::{Book, Pass};
 use fs_machine::Machine;
@@ -91,14 +93,14 @@ fn make_slot<L: Link, O: Dialer<Link = L>, C: Clock>(
     })
 }
 
-/// Makes a lane for each of these kinds, behind those of so many slots.
+/// Makes a lane for each of so many links at once, behind those of the slots.
 pub(crate) fn add_staff<L: Link, O: Dialer<Link = L>, C: Clock>(
     alloc: Global,
     book: &Book<Machine>,
     pass: &mut Pass<Machine>,
     clock: &C,
     came: &Arc<Came<L>>,
-    kinds: Vec<StaffKind>,
+    links: u16,
     lanes: &mut Vec<Lane<L, O>>,
 ) -> Result<(), Memory>
     requires book { IsPassOf configured book.now pass.old }
@@ -114,21 +116,21 @@ pub(crate) fn add_staff<L: Link, O: Dialer<Link = L>, C: Clock>(
     ensures failed { OnOk result ((from : ℕ) → HaveFailed O.dial_faults from lanes.old.items
         → HaveFailed O.dial_faults from lanes.new.items) }
 {
-    'kinds: for kind in kinds {
-        let staff = make_staff(alloc, book, pass, clock, came, kind)?;
+    'links: for number in 0..links {
+        let staff = make_staff(alloc, book, pass, clock, came, number)?;
         lanes.push(Lane::Staff(staff))?;
     }
     Ok(())
 }
 
-// Makes a lane of this kind.
+// Makes a lane for links, of this number.
 fn make_staff<L: Link, C: Clock>(
     alloc: Global,
     book: &Book<Machine>,
     pass: &mut Pass<Machine>,
     clock: &C,
     came: &Arc<Came<L>>,
-    kind: StaffKind,
+    number: u16,
 ) -> Result<Staff<L>, Memory>
     requires book { IsPassOf configured book.now pass.old }
     requires run { IsJournal (configured (opening_state book.now)) (seen pass.old) }
@@ -143,10 +145,33 @@ fn make_staff<L: Link, C: Clock>(
     let came = came.clone()?;
     Ok(Staff {
         alloc,
-        kind,
+        number,
         came,
         pass: book.split(pass, PARTS),
         conns: Vec::new(alloc),
+    })
+}
+
+/// Makes the desk of the jobs.
+pub(crate) fn make_desk<L: Link, C: Clock>(
+    alloc: Global,
+    book: &Book<Machine>,
+    pass: &mut Pass<Machine>,
+    clock: &C,
+) -> Result<Desk, Memory>
+    requires book { IsPassOf configured book.now pass.old }
+    requires run { IsJournal (configured (opening_state book.now)) (seen pass.old) }
+    ensures book { IsPassOf configured book.now pass.new }
+    ensures same { (seen pass.new ≡ seen pass.old) × (mine pass.new ≡ mine pass.old) × (met pass.new ≡ met pass.old) }
+    ensures parts { OnOk result (parts pass.new + 2 ≡ parts pass.old) }
+    ensures desk { IfOk result (DeskStands L.input L.output (C.tells clock.now) book.now) }
+{
+    if pass.parts() <= PARTS {
+        return Err(Memory);
+    }
+    Ok(Desk {
+        alloc,
+        pass: book.split(pass, PARTS),
     })
 }
 
@@ -288,6 +313,31 @@ fn gather_staff<L: Link, C: Clock>(
     conns.append(&mut more)?;
     book.meet(pass, other);
     Ok(())
+}
+
+/// Meets the desk into a pass.
+pub(crate) fn meet_desk<L: Link, C: Clock>(
+    book: &Book<Machine>,
+    pass: &mut Pass<Machine>,
+    clock: &C,
+    conns: &Vec<Conn<L>>,
+    desk: Desk,
+)
+    requires book { IsPassOf configured book.now pass.old }
+    requires desk { DeskStands L.input L.output (C.tells clock.now) book.now desk }
+    ensures book { IsPassOf configured book.now pass.new }
+    ensures parts { parts pass.new ≡ parts pass.old + 2 }
+    ensures keeps { (from to : ℕ)
+        → Keeps L.input L.output (MayEnter (C.tells clock.now) (Rose from to)) (configured (opening_state book.now))
+        (seen pass.old) (mine pass.old ∷ met pass.old) conns.now.items
+        → Keeps L.input L.output (MayEnter (C.tells clock.now) (Rose from to)) (configured (opening_state book.now))
+        (seen pass.new) (mine pass.new ∷ met pass.new) conns.now.items }
+    ensures bounded { (from : ℕ) (counts : List ℕ)
+        → AreBounded (λ slot. vain_in slot (seen pass.old) (mine pass.old ∷ met pass.old)) from counts
+        → AreBounded (λ slot. vain_in slot (seen pass.new) (mine pass.new ∷ met pass.new)) from counts }
+{
+    let Desk { pass: other, .. } = desk;
+    book.meet(pass, other);
 }
 
 /// Ends the book, of which the pass has all parts.

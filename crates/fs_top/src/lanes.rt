@@ -10,12 +10,9 @@ use crate::dialing::run_slot;
 use crate::laning::serve_links;
 use crate::muster::Muster;
 use crate::slots::SlotLane;
-use crate::turning::run_turns;
 use fs_book::{Book, Pass};
 use fs_machine::Machine;
-use fs_ports::{Clock, Dialer, Gates, Link, NoGates, Sleeper};
-use fs_session::Actor;
-use fs_text::Memory;
+use fs_ports::{Clock, Dialer, Gates, Link, Sleeper};
 use std::alloc::Global;
 use std::sync::{Arc, Wait};
 use std::thread::{self, Threads};
@@ -27,36 +24,18 @@ pub(crate) enum Lane<L: Link, O> {
     Staff(Staff<L>),
 }
 
-/// What a lane does that is not for a slot.
-#[derive(Clone, Copy, Debug, PartialEq, Eq)]
-pub(crate) enum StaffKind {
-    /// It works the jobs.
-    Jobs,
-    /// It serves links, one after another. Such lanes are numbered from 0 on.
-    Links(u16),
-}
-
-/// A lane that is not for a slot: a pass of its own, and the connections that it served.
+/// A lane that serves links, one after another: a pass of its own, and the connections that it served.
 #[derive(Drop)]
 pub(crate) struct Staff<L: Link> {
     pub(crate) alloc: Global,
-    pub(crate) kind: StaffKind,
+    /// Its number among such lanes, from 0 on.
+    pub(crate) number: u16,
     pub(crate) came: Arc<Came<L>>,
     pub(crate) pass: Pass<Machine>,
     pub(crate) conns: Vec<Conn<L>>,
 }
 
-/// The kinds of the lanes for the jobs, and for so many links at once.
-pub(crate) fn kinds_for(alloc: Global, links: u16) -> Result<Vec<StaffKind>, Memory> {
-    let mut kinds = Vec::new(alloc);
-    kinds.push(StaffKind::Jobs)?;
-    for number in 0..links {
-        kinds.push(StaffKind::Links(number))?;
-    }
-    Ok(kinds)
-}
-
-// Runs a lane that is not for a slot, with a clock of its own.
+// Runs a lane for links, with a clock of its own.
 fn run_staff<R: Wait, L: Link, C: Clock>(
     rt: &R,
     book: &Book<Machine>,
@@ -66,13 +45,13 @@ fn run_staff<R: Wait, L: Link, C: Clock>(
     requires { StaffStands L.input L.output (C.tells clock.now) book.now staff.old }
     ensures { StaffStands L.input L.output (C.tells clock.now) book.now staff.new }
 {
-    let sleeper = sleeper_of(staff.kind);
+    let sleeper = Sleeper::Lane(staff.number);
     let clock = clock.of_sleeper(sleeper);
-    work(rt, book, &clock, sleeper, staff);
+    serve_staff(rt, book, &clock, sleeper, staff);
 }
 
-// Does what such a lane does.
-fn work<R: Wait, L: Link, C: Clock>(
+// Does so with this clock.
+fn serve_staff<R: Wait, L: Link, C: Clock>(
     rt: &R,
     book: &Book<Machine>,
     clock: &C,
@@ -83,42 +62,17 @@ fn work<R: Wait, L: Link, C: Clock>(
     ensures { StaffStands L.input L.output (C.tells clock.now) book.now staff.new }
 {
     let pass = &mut staff.pass;
-    match staff.kind {
-        StaffKind::Jobs => {
-            // Nobody is to be dialed for a job.
-            run_turns(
-                rt,
-                staff.alloc,
-                book,
-                pass,
-                Actor::Jobs,
-                clock,
-                &NoGates,
-                &staff.conns,
-            );
-        }
-        StaffKind::Links(_) => {
-            let conns = &mut staff.conns;
-            serve_links(
-                rt,
-                staff.alloc,
-                book,
-                &staff.came,
-                pass,
-                sleeper,
-                clock,
-                conns,
-            );
-        }
-    }
-}
-
-// Who sleeps where such a lane has nothing to do.
-fn sleeper_of(kind: StaffKind) -> Sleeper {
-    match kind {
-        StaffKind::Jobs => Sleeper::Jobs,
-        StaffKind::Links(number) => Sleeper::Lane(number),
-    }
+    let conns = &mut staff.conns;
+    serve_links(
+        rt,
+        staff.alloc,
+        book,
+        &staff.came,
+        pass,
+        sleeper,
+        clock,
+        conns,
+    );
 }
 
 // Runs one lane, once all have begun. Where somebody does not begin, nothing is done.

@@ -9,6 +9,7 @@ mod came;
 mod conns;
 mod counted;
 mod course;
+mod desk;
 mod dialing;
 mod documents;
 mod ending;

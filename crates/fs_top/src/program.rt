@@ -1,13 +1,17 @@
 //! The run: the words, the file, its document, its patterns, and what is asked of them.
 
-ghost use Rattle.std.specs.Prelude.{◌≡◌, ◌↔◌, ◌⊎◌, [], None, Some, IsTrue, false};
+ghost use Rattle.std.specs.Prelude.{◌≡◌, ◌↔◌, ◌⊎◌, [], None, Some, IsTrue, false, IfOk};
 ghost use Rattle.fs_ports.specs.Counts as counts;
+ghost use Rattle.fs_ports.specs.Memory.{new_shelf};
 ghost use Rattle.fs_doc.specs.Reading.{Configuration};
 ghost use Rattle.fs_top.specs.Counted as counted;
 ghost use Rattle.fs_top.specs.Documents as documents;
 ghost use Rattle.fs_top.specs.Told as spec;
 ghost use Rattle.fs_top.specs.Reading.{asked_seen};
-ghost use Rattle.fs_top.specs.Runs.{PlaysTo, Loads, Answers, OverBytes, OverConfig, not_read, not_built, Runs, Ran};
+ghost use Rattle.fs_conn.specs.Filed.{file_view};
+ghost use Rattle.fs_ports.specs.Loads.{next};
+ghost use Rattle.fs_top.specs.Runs.{PlaysAnew, Loads, OverBytes, OverConfig, OverPlan, not_read, not_built, Runs, Ran};
+ghost use Rattle.fs_top.specs.Runs.{library, view_in, name_of};
 ghost use Rattle.fs_top.specs.Runs.{CarriesOutAs};
 ghost use Rattle.fs_top.specs.Runs.{HasConfig, HasFault, HasRefusal, CountRose, FillsJournal, MeetsBadBlock, RunsAway};
 ghost use Rattle.fs_top.specs.Runs.{IsGiven, NoneRose, DoesAll};
@@ -23,7 +27,7 @@ use fs_doc::{Config, ContextDef, DocFault, DocKind, read_config};
 use fs_load::{CallLink, load_document};
 use fs_machine::Machine;
 use fs_plan::{Dialplan, PlanFault};
-use fs_ports::{Files, Link, Load, Sent, Sink, send_all};
+use fs_ports::{Files, Link, Load, MemFiles, Sent, Sink, send_all};
 use fs_state::Counts;
 use fs_text::{Memory, Txt};
 use fs_vars::Vars;
@@ -51,34 +55,36 @@ pub fn run<F: Files, L: Link, E: Sink>(
     requires waits { IsTrue (L.input link.old).waits }
 
     // The output, the line and the status are those that are told for these words, for what the file gave, for the
-    // pattern that was refused, if any, and for what was taken from the link; or a front of this output, with status 5
-    // after a write fault and 1 for want of memory. For `check` and `hunt` nothing is taken.
-    ensures told { Ran (spec.asked_by words.now) (F.next_load files.old)
-        (F.counts files.old) (F.counts files.new) (F.sizes files.old) (F.sizes files.new)
+    // pattern that was refused, if any, for the notes of the loads of a play behind that, each of what the files told
+    // that this load would answer, and for what was taken from the link; or a front of this output, with status 5 after
+    // a write fault and 1 for want of memory. For `check` and `hunt` nothing is taken.
+    ensures told { Ran (spec.asked_by words.now)
+        (library (F.loads files.old) (F.counts files.old) (F.sizes files.old))
+        (library (F.loads files.new) (F.counts files.new) (F.sizes files.new))
         (L.input link.old) (L.input link.new) (L.output link.old) (L.output link.new)
         (E.output err.old) (E.output err.new) result.code }
 
     // Each status has its cause.
     ensures usage { (result.code ≡ 2) ↔ (spec.asked_by words.now ≡ None) }
-    ensures document { result.code ≡ 3 → HasFault (spec.asked_by words.now) (F.next_load files.old)
-        ⊎ HasRefusal (spec.asked_by words.now) (F.next_load files.old) (F.sizes files.old) (F.sizes files.new) }
+    ensures document { result.code ≡ 3 → HasFault (spec.asked_by words.now) (next (F.loads files.old))
+        ⊎ HasRefusal (spec.asked_by words.now) (next (F.loads files.old)) (F.sizes files.old) (F.sizes files.new) }
     ensures unreadable { result.code ≡ 4
         → CountRose (F.counts files.old) (F.counts files.new) (L.input link.old) (L.input link.new) }
     ensures write_fault { result.code ≡ 5 → (L.output link.new).faults ≡ counts.raised (L.output link.old).faults }
     ensures full { result.code ≡ 8 → (c : Configuration)
-        × HasConfig (spec.asked_by words.now) (F.next_load files.old) c
+        × HasConfig (spec.asked_by words.now) (next (F.loads files.old)) c
         × FillsJournal (spec.asked_by words.now) c (L.input link.old) (L.input link.new) }
     ensures runaway { result.code ≡ 9 → (c : Configuration)
-        × HasConfig (spec.asked_by words.now) (F.next_load files.old) c
+        × HasConfig (spec.asked_by words.now) (next (F.loads files.old)) c
         × RunsAway (spec.asked_by words.now) c (L.input link.old) (L.input link.new) }
     ensures bad_block { result.code ≡ 10 → (c : Configuration)
-        × HasConfig (spec.asked_by words.now) (F.next_load files.old) c
+        × HasConfig (spec.asked_by words.now) (next (F.loads files.old)) c
         × MeetsBadBlock (spec.asked_by words.now) c (L.input link.old) (L.input link.new) }
 
     // Where the file is told to be read as a configuration whose patterns have readings, and no count rose, all that is
     // told was done, or memory was wanting.
     ensures complete { (asked : spec.Asked) (c : Configuration)
-        → IsGiven (spec.asked_by words.now) (F.next_load files.old) asked c
+        → IsGiven (spec.asked_by words.now) (next (F.loads files.old)) asked c
         → NoneRose (F.sizes files.old) (F.sizes files.new)
         (L.input link.old) (L.input link.new) (L.output link.old) (L.output link.new)
         → DoesAll asked c (L.input link.old) (L.input link.new) (L.output link.old) (L.output link.new)
@@ -99,8 +105,9 @@ fn conduct<'a, F: Files, L: Link>(
     link: &mut L,
 ) -> Outcome<'a>
     requires { IsTrue (L.input link.old).waits }
-    ensures { Runs (spec.asked_by words.now) (F.next_load files.old)
-        (F.counts files.old) (F.counts files.new) (F.sizes files.old) (F.sizes files.new)
+    ensures { Runs (spec.asked_by words.now)
+        (library (F.loads files.old) (F.counts files.old) (F.sizes files.old))
+        (library (F.loads files.new) (F.counts files.new) (F.sizes files.new))
         (L.input link.old) (L.input link.new) (L.output link.old) (L.output link.new) result }
 {
     match Asked::of(words) {
@@ -117,8 +124,9 @@ fn over_asked<'a, F: Files, L: Link>(
     link: &mut L,
 ) -> Outcome<'a>
     requires { IsTrue (L.input link.old).waits }
-    ensures { Runs (Some (asked_seen asked.entry)) (F.next_load files.old)
-        (F.counts files.old) (F.counts files.new) (F.sizes files.old) (F.sizes files.new)
+    ensures { Runs (Some (asked_seen asked.entry))
+        (library (F.loads files.old) (F.counts files.old) (F.sizes files.old))
+        (library (F.loads files.new) (F.counts files.new) (F.sizes files.new))
         (L.input link.old) (L.input link.new) (L.output link.old) (L.output link.new) result }
 {
     match asked.file() {
@@ -137,8 +145,9 @@ fn over_file<'a, F: Files, L: Link>(
 ) -> Outcome<'a>
     requires waits { IsTrue (L.input link.old).waits }
     requires named { spec.file_asked (asked_seen asked) ≡ Some name.now }
-    ensures { Runs (Some (asked_seen asked.entry)) (F.next_load files.old)
-        (F.counts files.old) (F.counts files.new) (F.sizes files.old) (F.sizes files.new)
+    ensures { Runs (Some (asked_seen asked.entry))
+        (library (F.loads files.old) (F.counts files.old) (F.sizes files.old))
+        (library (F.loads files.new) (F.counts files.new) (F.sizes files.new))
         (L.input link.old) (L.input link.new) (L.output link.old) (L.output link.new) result }
 {
     match files.load(name) {
@@ -158,9 +167,10 @@ fn over_bytes<'a, F: Files, L: Link>(
     link: &mut L,
 ) -> Outcome<'a>
     requires { IsTrue (L.input link.old).waits }
-    ensures over { OverBytes (asked_seen asked.entry) bytes.now (F.sizes files.old) (F.sizes files.new)
+    ensures { OverBytes (asked_seen asked.entry) bytes.now
+        (view_in (library (F.loads files.old) (F.counts files.old) (F.sizes files.old)) (name_of (asked_seen asked.entry)))
+        (view_in (library (F.loads files.new) (F.counts files.new) (F.sizes files.new)) (name_of (asked_seen asked.entry)))
         (L.input link.old) (L.input link.new) (L.output link.old) (L.output link.new) result }
-    ensures counts { F.counts files.new ≡ F.counts files.old }
 {
     match read_config(alloc, bytes) {
         Ok(config) => over_config(alloc, asked, config, files, link),
@@ -187,12 +197,13 @@ fn over_config<'a, F: Files, L: Link>(
     link: &mut L,
 ) -> Outcome<'a>
     requires { IsTrue (L.input link.old).waits }
-    ensures over { OverConfig (asked_seen asked.entry) config (F.sizes files.old) (F.sizes files.new)
+    ensures { OverConfig (asked_seen asked.entry) config
+        (view_in (library (F.loads files.old) (F.counts files.old) (F.sizes files.old)) (name_of (asked_seen asked.entry)))
+        (view_in (library (F.loads files.new) (F.counts files.new) (F.sizes files.new)) (name_of (asked_seen asked.entry)))
         (L.input link.old) (L.input link.new) (L.output link.old) (L.output link.new) result }
-    ensures counts { F.counts files.new ≡ F.counts files.old }
 {
     match Dialplan::build(alloc, &config, files) {
-        Ok(plan) => over_plan(alloc, asked, config, plan, link),
+        Ok(plan) => over_plan(alloc, asked, config, plan, files, link),
         Err(fault) => not_built(fault),
     }
 }
@@ -210,16 +221,19 @@ pub(crate) fn not_built<'a>(fault: PlanFault) -> Outcome<'a>
 }
 
 // Does what is asked of a configuration and its dialplan.
-fn over_plan<'a, L: Link>(
+fn over_plan<'a, F: Files, L: Link>(
     alloc: Global,
     asked: Asked<'a>,
     config: Config,
     plan: Dialplan,
+    files: &mut F,
     link: &mut L,
 ) -> Outcome<'a>
     requires waits { IsTrue (L.input link.old).waits }
     requires built { plan ≡ config.contexts }
-    ensures { Answers (spec.told_asked (asked_seen asked.entry) config) (Some (asked_seen asked.entry))
+    ensures { OverPlan (asked_seen asked.entry) config
+        (view_in (library (F.loads files.old) (F.counts files.old) (F.sizes files.old)) (name_of (asked_seen asked.entry)))
+        (view_in (library (F.loads files.new) (F.counts files.new) (F.sizes files.new)) (name_of (asked_seen asked.entry)))
         (L.input link.old) (L.input link.new) (L.output link.old) (L.output link.new) result }
 {
     match asked {
@@ -232,7 +246,7 @@ fn over_plan<'a, L: Link>(
             dest,
             link,
         ),
-        Asked::Play { .. } => played(alloc, config, plan, link),
+        Asked::Play { file } => played(alloc, config, plan, files, file, link),
         Asked::Load { count, start } => load(alloc, config, plan, count, start, link),
     }
 }
@@ -280,14 +294,23 @@ fn print<'a, L: Link>(link: &mut L, text: &Txt) -> Outcome<'a>
     }
 }
 
-// Plays one connection over the link, as the configuration says.
-fn played<'a, L: Link>(alloc: Global, config: Config, plan: Dialplan, link: &mut L) -> Outcome<'a>
+// Plays one connection over the link, as the configuration says. Each load is one of the file of this name.
+fn played<'a, F: Files, L: Link>(
+    alloc: Global,
+    config: Config,
+    plan: Dialplan,
+    files: &mut F,
+    name: &Txt,
+    link: &mut L,
+) -> Outcome<'a>
     requires waits { IsTrue (L.input link.old).waits }
     requires built { plan ≡ config.contexts }
-    ensures { PlaysTo config (L.input link.old) (L.output link.old) (L.input link.new) (L.output link.new) result }
+    ensures { PlaysAnew config (file_view (F.loads files.old name.now) (F.counts files.old) (F.sizes files.old))
+        (file_view (F.loads files.new name.now) (F.counts files.new) (F.sizes files.new))
+        (L.input link.old) (L.output link.old) (L.input link.new) (L.output link.new) result }
 {
     match Machine::new(alloc, config, plan) {
-        Ok(mut machine) => Outcome::Ended(play(alloc, &mut machine, link)),
+        Ok(mut machine) => Outcome::Ended(play(alloc, &mut machine, link, files, name)),
         Err(Memory) => Outcome::Ended(End::Memory),
     }
 }
@@ -311,7 +334,7 @@ fn load<'a, L: Link>(
     }
 }
 
-// Plays so many calls on a machine.
+// Plays so many calls on a machine. There is no file that could be loaded again.
 fn load_on<'a, L: Link>(
     alloc: Global,
     machine: &mut Machine,
@@ -324,10 +347,20 @@ fn load_on<'a, L: Link>(
     ensures input { L.input link.new ≡ L.input link.old }
 {
     let mut calls = CallLink::new(count, start);
-    match play(alloc, machine, &mut calls) {
+    let Ok((mut files, name)) = no_files(alloc) else {
+        return Outcome::Ended(End::Memory);
+    };
+    match play(alloc, machine, &mut calls, &mut files, &name) {
         End::Exit => print_counts(alloc, count, machine.counts(), link),
         end => Outcome::Ended(end),
     }
+}
+
+// Files of which there are none, and a name.
+fn no_files(alloc: Global) -> Result<(MemFiles, Txt), Memory>
+    ensures { IfOk result (λ none. (none.0 ≡ new_shelf [] [] []) × (none.1 ≡ [])) }
+{
+    Ok((MemFiles::new(alloc, &[], &[], &[])?, Txt::of(alloc, b"")?))
 }
 
 // Prints the counts behind so many calls.

@@ -3,6 +3,7 @@
 ghost use Rattle.std.specs.Prelude.{◌≡◌, ◌⊎◌, ◌^◌, [], ◌∷◌, map, true, false, IfOk, OnOk};
 ghost use Rattle.std.specs.List.{list_any};
 ghost use Rattle.fs_doc.specs.Reading.{Configuration};
+ghost use Rattle.fs_ports.specs.Loads.{next};
 ghost use Rattle.fs_state.specs.Switch.{is_full};
 ghost use Rattle.fs_machine.specs.Laws.{IsRun, state_after};
 ghost use Rattle.fs_top.specs.declared.course.Course.TheVariants as courses;
@@ -23,8 +24,7 @@ use crate::came::Came;
 use crate::conns::Conn;
 use crate::course::Course;
 use crate::ending::settle;
-use crate::gathering::{Gathered, add_staff, close, gather, make_slots};
-use crate::lanes::kinds_for;
+use crate::gathering::{Gathered, add_staff, close, gather, make_desk, make_slots, meet_desk};
 use crate::outcome::Outcome;
 use crate::program::{Status, not_built, not_read};
 use fs_book::{Book, Pass};
@@ -108,7 +108,7 @@ impl<'a, L: Link, O: Drop> Ran<'a, L, O> {
 /// can be made for the connection of a controller, that is served behind the turns of its slot.
 pub fn serve<
     R: Threads + Wait + Sync,
-    F: Files,
+    F: Files + Send,
     D: Door + Send,
     O: Dialer<Link = D::Link>,
     C: Clock,
@@ -129,7 +129,7 @@ pub fn serve<
     // that was refused, the door did not listen, and then nothing is handed back; or its configuration was served. The
     // status is that of the course, and its line was printed on `err`, or a front of it.
     ensures told { spec.ServesAs D.Link.input D.Link.output (C.tells clock.now)
-        (F.next_load files.old) (spec.file_served words.now) (F.counts files.old) (F.counts files.new)
+        (next (F.loads files.old)) (spec.file_served words.now) (F.counts files.old) (F.counts files.new)
         (F.sizes files.old) (F.sizes files.new) (D.door_faults door.old) (D.door_faults door.new)
         (E.output err.old) (E.output err.new) result.status.code
         result.journal.entries result.conns.items result.dialers.items }
@@ -140,7 +140,7 @@ pub fn serve<
     // it are a front of its frames. Each moment is one that the clock may tell, and the door failed where an entry
     // halts the switch.
     ensures headline { ((result.journal.entries ≡ []) × (result.conns.items ≡ [])) ⊎ ((c : Configuration)
-        × spec.IsReadAs (F.next_load files.old) (spec.file_served words.now) c
+        × spec.IsReadAs (next (F.loads files.old)) (spec.file_served words.now) c
         × (result.status.code ≡ status_behind c result.journal.entries)
         × Headline D.Link.input D.Link.output
         (MayEnter (C.tells clock.now) (Rose (D.door_faults door.old) (D.door_faults door.new)))
@@ -153,24 +153,24 @@ pub fn serve<
 
     // Each status has its cause.
     ensures shutdown { result.status.code ≡ 0 → (c : Configuration)
-        × spec.IsReadAs (F.next_load files.old) (spec.file_served words.now) c
+        × spec.IsReadAs (next (F.loads files.old)) (spec.file_served words.now) c
         × IsShutDown c result.journal.entries }
-    ensures document { result.status.code ≡ 3 → spec.IsNoDocument (F.next_load files.old) (spec.file_served words.now)
+    ensures document { result.status.code ≡ 3 → spec.IsNoDocument (next (F.loads files.old)) (spec.file_served words.now)
         (F.sizes files.old) (F.sizes files.new) }
-    ensures unreadable { result.status.code ≡ 4 → spec.IsUnread (F.next_load files.old) (spec.file_served words.now)
+    ensures unreadable { result.status.code ≡ 4 → spec.IsUnread (next (F.loads files.old)) (spec.file_served words.now)
         (F.counts files.old) (F.counts files.new) }
     ensures door { result.status.code ≡ 7 → (c : Configuration)
-        × spec.IsReadAs (F.next_load files.old) (spec.file_served words.now) c
+        × spec.IsReadAs (next (F.loads files.old)) (spec.file_served words.now) c
         × Rose (D.door_faults door.old) (D.door_faults door.new) }
     ensures full { result.status.code ≡ 8 → (c : Configuration)
-        × spec.IsReadAs (F.next_load files.old) (spec.file_served words.now) c
+        × spec.IsReadAs (next (F.loads files.old)) (spec.file_served words.now) c
         × (is_full (state_after c result.journal.entries) ≡ true) }
     ensures codes { spec.IsStatus result.status.code }
 
     // Where the file is told to be read as a configuration whose patterns have readings, and no count of files or of
     // the door rose, the server was shut down, its journal is full, or memory was wanting.
     ensures complete { (c : Configuration)
-        → spec.IsServable (F.next_load files.old) (spec.file_served words.now) c
+        → spec.IsServable (next (F.loads files.old)) (spec.file_served words.now) c
         → spec.NoneFailed (F.sizes files.old) (F.sizes files.new) (D.door_faults door.old) (D.door_faults door.new)
         → spec.IsGoodStatus result.status.code }
 {
@@ -180,7 +180,7 @@ pub fn serve<
 /// Does what [`serve`] does, where the hunts for the channel in a slot pass that slot's gate.
 pub fn serve_with<
     R: Threads + Wait + Sync,
-    F: Files,
+    F: Files + Send,
     D: Door + Send,
     O: Dialer<Link = D::Link>,
     C: Clock,
@@ -203,7 +203,7 @@ pub fn serve_with<
     // that was refused, the door did not listen, and then nothing is handed back; or its configuration was served. The
     // status is that of the course, and its line was printed on `err`, or a front of it.
     ensures told { spec.ServesAs D.Link.input D.Link.output (C.tells clock.now)
-        (F.next_load files.old) (spec.file_served words.now) (F.counts files.old) (F.counts files.new)
+        (next (F.loads files.old)) (spec.file_served words.now) (F.counts files.old) (F.counts files.new)
         (F.sizes files.old) (F.sizes files.new) (D.door_faults door.old) (D.door_faults door.new)
         (E.output err.old) (E.output err.new) result.status.code
         result.journal.entries result.conns.items result.dialers.items }
@@ -214,7 +214,7 @@ pub fn serve_with<
     // it are a front of its frames. Each moment is one that the clock may tell, and the door failed where an entry
     // halts the switch.
     ensures headline { ((result.journal.entries ≡ []) × (result.conns.items ≡ [])) ⊎ ((c : Configuration)
-        × spec.IsReadAs (F.next_load files.old) (spec.file_served words.now) c
+        × spec.IsReadAs (next (F.loads files.old)) (spec.file_served words.now) c
         × (result.status.code ≡ status_behind c result.journal.entries)
         × Headline D.Link.input D.Link.output
         (MayEnter (C.tells clock.now) (Rose (D.door_faults door.old) (D.door_faults door.new)))
@@ -227,24 +227,24 @@ pub fn serve_with<
 
     // Each status has its cause.
     ensures shutdown { result.status.code ≡ 0 → (c : Configuration)
-        × spec.IsReadAs (F.next_load files.old) (spec.file_served words.now) c
+        × spec.IsReadAs (next (F.loads files.old)) (spec.file_served words.now) c
         × IsShutDown c result.journal.entries }
-    ensures document { result.status.code ≡ 3 → spec.IsNoDocument (F.next_load files.old) (spec.file_served words.now)
+    ensures document { result.status.code ≡ 3 → spec.IsNoDocument (next (F.loads files.old)) (spec.file_served words.now)
         (F.sizes files.old) (F.sizes files.new) }
-    ensures unreadable { result.status.code ≡ 4 → spec.IsUnread (F.next_load files.old) (spec.file_served words.now)
+    ensures unreadable { result.status.code ≡ 4 → spec.IsUnread (next (F.loads files.old)) (spec.file_served words.now)
         (F.counts files.old) (F.counts files.new) }
     ensures door { result.status.code ≡ 7 → (c : Configuration)
-        × spec.IsReadAs (F.next_load files.old) (spec.file_served words.now) c
+        × spec.IsReadAs (next (F.loads files.old)) (spec.file_served words.now) c
         × Rose (D.door_faults door.old) (D.door_faults door.new) }
     ensures full { result.status.code ≡ 8 → (c : Configuration)
-        × spec.IsReadAs (F.next_load files.old) (spec.file_served words.now) c
+        × spec.IsReadAs (next (F.loads files.old)) (spec.file_served words.now) c
         × (is_full (state_after c result.journal.entries) ≡ true) }
     ensures codes { spec.IsStatus result.status.code }
 
     // Where the file is told to be read as a configuration whose patterns have readings, and no count of files or of
     // the door rose, the server was shut down, its journal is full, or memory was wanting.
     ensures complete { (c : Configuration)
-        → spec.IsServable (F.next_load files.old) (spec.file_served words.now) c
+        → spec.IsServable (next (F.loads files.old)) (spec.file_served words.now) c
         → spec.NoneFailed (F.sizes files.old) (F.sizes files.new) (D.door_faults door.old) (D.door_faults door.new)
         → spec.IsGoodStatus result.status.code }
 {
@@ -281,7 +281,7 @@ fn file_of(words: &[Txt]) -> &Txt
 fn serve_file<
     'a,
     R: Threads + Wait + Sync,
-    F: Files,
+    F: Files + Send,
     D: Door + Send,
     O: Dialer<Link = D::Link>,
     C: Clock,
@@ -296,7 +296,7 @@ fn serve_file<
     clock: &C,
     gates: &G,
 ) -> Ran<'a, D::Link, O>
-    ensures serves { spec.Serves D.Link.input D.Link.output (C.tells clock.now) (F.next_load files.old) name.now
+    ensures serves { spec.Serves D.Link.input D.Link.output (C.tells clock.now) (next (F.loads files.old)) name.now
         (F.counts files.old) (F.counts files.new) (F.sizes files.old) (F.sizes files.new)
         (D.door_faults door.old) (D.door_faults door.new) result.course result.journal.entries result.conns.items
         result.dialers.items }
@@ -312,6 +312,7 @@ fn serve_file<
     serve_bytes(
         rt,
         alloc,
+        name,
         bytes.as_bytes(),
         files,
         door,
@@ -325,7 +326,7 @@ fn serve_file<
 fn serve_bytes<
     'a,
     R: Threads + Wait + Sync,
-    F: Files,
+    F: Files + Send,
     D: Door + Send,
     O: Dialer<Link = D::Link>,
     C: Clock,
@@ -333,6 +334,7 @@ fn serve_bytes<
 >(
     rt: &R,
     alloc: Global,
+    name: &Txt,
     bytes: &[u8],
     files: &mut F,
     door: &mut D,
@@ -348,7 +350,9 @@ fn serve_bytes<
 {
     match read_config(alloc, bytes) {
         Ok(config) => match Dialplan::build(alloc, &config, files) {
-            Ok(plan) => serve_config(rt, alloc, config, plan, door, dialer, clock, gates),
+            Ok(plan) => serve_config(
+                rt, alloc, config, plan, files, name, door, dialer, clock, gates,
+            ),
             Err(fault) => Ran::nothing(alloc, Course::Run(not_built(fault))),
         },
         Err(fault) => Ran::nothing(alloc, Course::Run(not_read(fault))),
@@ -359,6 +363,7 @@ fn serve_bytes<
 fn serve_config<
     'a,
     R: Threads + Wait + Sync,
+    F: Files + Send,
     D: Door + Send,
     O: Dialer<Link = D::Link>,
     C: Clock,
@@ -368,6 +373,8 @@ fn serve_config<
     alloc: Global,
     config: Config,
     plan: Dialplan,
+    files: &mut F,
+    name: &Txt,
     door: &mut D,
     dialer: &O,
     clock: &C,
@@ -388,7 +395,9 @@ fn serve_config<
         Listen::Failed => return Ran::nothing(alloc, Course::DoorFault),
     }
     match Machine::new(alloc, config, plan) {
-        Ok(machine) => serve_machine(rt, alloc, machine, slots, links, door, dialer, clock, gates),
+        Ok(machine) => serve_machine(
+            rt, alloc, machine, slots, links, files, name, door, dialer, clock, gates,
+        ),
         Err(Memory) => Ran::without_memory(alloc),
     }
 }
@@ -397,6 +406,7 @@ fn serve_config<
 fn serve_machine<
     'a,
     R: Threads + Wait + Sync,
+    F: Files + Send,
     D: Door + Send,
     O: Dialer<Link = D::Link>,
     C: Clock,
@@ -407,6 +417,8 @@ fn serve_machine<
     machine: Machine,
     slots: u16,
     links: u16,
+    files: &mut F,
+    name: &Txt,
     door: &mut D,
     dialer: &O,
     clock: &C,
@@ -424,7 +436,7 @@ fn serve_machine<
         return Ran::without_memory(alloc);
     };
     match serve_book(
-        rt, alloc, book, pass, slots, links, door, dialer, clock, gates,
+        rt, alloc, book, pass, slots, links, files, name, door, dialer, clock, gates,
     ) {
         Ok((machine, gathered)) => conclude(machine, gathered),
         Err(Memory) => Ran::without_memory(alloc),
@@ -434,6 +446,7 @@ fn serve_machine<
 // Serves over a book to which nothing has happened, and closes it.
 fn serve_book<
     R: Threads + Wait + Sync,
+    F: Files + Send,
     D: Door + Send,
     O: Dialer<Link = D::Link>,
     C: Clock,
@@ -445,6 +458,8 @@ fn serve_book<
     pass: Pass<Machine>,
     slots: u16,
     links: u16,
+    files: &mut F,
+    name: &Txt,
     door: &mut D,
     dialer: &O,
     clock: &C,
@@ -461,7 +476,7 @@ fn serve_book<
 {
     let mut pass = pass;
     let gathered = serve_to_end(
-        rt, alloc, &book, &mut pass, slots, links, door, dialer, clock, gates,
+        rt, alloc, &book, &mut pass, slots, links, files, name, door, dialer, clock, gates,
     )?;
     let machine = close(book, pass, clock, &gathered.conns);
     Ok((machine, gathered))
@@ -471,6 +486,7 @@ fn serve_book<
 // and the dialers.
 fn serve_to_end<
     R: Threads + Wait + Sync,
+    F: Files + Send,
     D: Door + Send,
     O: Dialer<Link = D::Link>,
     C: Clock,
@@ -482,6 +498,8 @@ fn serve_to_end<
     pass: &mut Pass<Machine>,
     slots: u16,
     links: u16,
+    files: &mut F,
+    name: &Txt,
     door: &mut D,
     dialer: &O,
     clock: &C,
@@ -503,29 +521,26 @@ fn serve_to_end<
 {
     let came = Arc::new(alloc, Came::new(alloc))?;
     let mut lanes = make_slots(alloc, book, pass, clock, dialer, slots)?;
-    add_staff(
-        alloc,
-        book,
-        pass,
-        clock,
-        &came,
-        kinds_for(alloc, links)?,
-        &mut lanes,
-    )?;
+    add_staff(alloc, book, pass, clock, &came, links, &mut lanes)?;
+    let mut desk = make_desk::<D::Link, C>(alloc, book, pass, clock)?;
     let began = run_beside(
         rt,
         book,
         &came,
         clock,
         gates,
+        files,
+        name,
         door,
         pass,
+        &mut desk,
         lanes.as_mut_slice(),
     );
     if !began {
         return Err(Memory);
     }
     let gathered = gather(alloc, book, pass, clock, slots, lanes)?;
+    meet_desk(book, pass, clock, &gathered.conns, desk);
     settle(rt, book, pass, clock);
     Ok(gathered)
 }

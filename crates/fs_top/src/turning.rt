@@ -21,6 +21,8 @@ use std::sync::Wait;
 pub(crate) enum Pause {
     /// This controller is to be dialed for the channel in the slot.
     Talk(Target),
+    /// The file that the switch was configured by is to be loaded for this job.
+    Load(u64),
     /// The switch has come to its end and nothing of the actor is left, or the journal is full.
     Over,
 }
@@ -73,6 +75,7 @@ fn follow<C: Clock>(worked: Worked, clock: &C) -> Option<Pause> {
         Worked::Idle { next: None } => clock.nap(),
         Worked::Refused(Refusal::Memory) => rest(clock),
         Worked::Talk(target) => return Some(Pause::Talk(target)),
+        Worked::Load(job) => return Some(Pause::Load(job)),
         Worked::Stopped | Worked::Refused(_) => return Some(Pause::Over),
     }
     None

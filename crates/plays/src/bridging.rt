@@ -1,10 +1,13 @@
 //! What happens in entries in which a bridge begins or ends, or a channel is hung up.
 
-ghost use Rattle.std.specs.Prelude.{◌≡◌};
+ghost use Rattle.std.specs.Prelude.{◌≡◌, false};
+ghost use mathlib.Core.List.{IsPrefix};
+ghost use Rattle.fs_machine.specs.Entries.{is_load};
 
+use crate::again::load_again;
 use crate::played::machine_of;
 use case_desk::{Answer, Table};
-use fs_machine::{Entry, Machine, Reply};
+use fs_machine::{Act, Entry, Machine, Reply};
 use fs_state::{Detail, Event};
 use fs_text::EventName;
 
@@ -13,14 +16,28 @@ use fs_text::EventName;
 pub(crate) fn tell_journal(table: &Table, entries: &[Entry], answer: &mut Answer) {
     if let Some(mut machine) = machine_of(table, answer) {
         for entry in entries {
-            let _reply = tell_entry(&mut machine, entry, answer);
+            tell_again(&mut machine, entry, answer);
         }
     }
 }
 
-/// Makes an entry, and adds what happens in it, or why it is refused.
+// Makes an entry of a journal again. In one of a load no bridge begins or ends.
+fn tell_again(machine: &mut Machine, entry: &Entry, answer: &mut Answer) {
+    if let Act::Loaded { job, note } = &entry.act {
+        let made = load_again(answer.alloc(), note);
+        if let Some(load) = answer.made(made) {
+            let _done = machine.apply_load(entry.moment, *job, load);
+        }
+        return;
+    }
+    let _reply = tell_entry(machine, entry, answer);
+}
+
+/// Makes an entry that notes no load, and adds what happens in it, or why it is refused.
 pub(crate) fn tell_entry(machine: &mut Machine, entry: &Entry, answer: &mut Answer) -> Option<Reply>
-    ensures { machine.new.config ≡ machine.old.config }
+    requires { is_load entry.now.act ≡ false }
+    ensures config { machine.new.config ≡ machine.old.config }
+    ensures front { IsPrefix machine.old.journal machine.new.journal }
 {
     match machine.prepare(entry) {
         Ok(change) => {

@@ -1,6 +1,8 @@
 //! Entries that are made one after another, in whatever order connections, channels and jobs come.
 
-ghost use Rattle.std.specs.Prelude.{◌≡◌, IfOk, IfSome};
+ghost use Rattle.std.specs.Prelude.{◌≡◌, false, IfOk, IfSome};
+ghost use mathlib.Core.List.{IsPrefix};
+ghost use Rattle.fs_machine.specs.Entries.{is_load};
 ghost use Rattle.fs_machine.specs.Routes.{Suits};
 
 use crate::answers::tell_answers;
@@ -118,7 +120,7 @@ fn route(machine: &mut Machine, rest: &str, answer: &mut Answer) {
     say(machine, said, answer);
     match machine.apply_route(0, slot, plan) {
         Ok(_) => answer.line("routed"),
-        Err(RouteRefusal::Again { touched }) => {
+        Err(RouteRefusal::Again { touched, .. }) => {
             answer.told(format_args!("again, changed by {touched} entries"));
         }
         Err(RouteRefusal::Step(refusal)) => answer.shown(refusal),
@@ -127,9 +129,9 @@ fn route(machine: &mut Machine, rest: &str, answer: &mut Answer) {
 
 // A plan for the route of the channel in a slot, if it is to be routed and no text is too long.
 fn plan_of(machine: &Machine, slot: u16, alloc: Global) -> Result<Option<Plan>, Memory>
-    ensures { IfOk result (λ plan. IfSome plan (Suits machine.now.config)) }
+    ensures { IfOk result (λ plan. IfSome plan (Suits machine.now.config machine.now.journal)) }
 {
-    match machine.snapshot(slot)? {
+    match machine.snapshot(0, slot)? {
         Some(seen) => seen.plan(alloc, &mut NoGate),
         None => Ok(None),
     }
@@ -137,7 +139,8 @@ fn plan_of(machine: &Machine, slot: u16, alloc: Global) -> Result<Option<Plan>, 
 
 // Gives a command line of a connection.
 fn say(machine: &mut Machine, rest: &str, answer: &mut Answer)
-    ensures { machine.new.config ≡ machine.old.config }
+    ensures config { machine.new.config ≡ machine.old.config }
+    ensures front { IsPrefix machine.old.journal machine.new.journal }
 {
     let (conn, line) = cut(rest);
     let made = block_of(line, answer);
@@ -160,9 +163,11 @@ fn block_of(line: &str, answer: &mut Answer) -> Result<Txt, Memory> {
     Txt::from_vec(bytes)
 }
 
-// Makes an entry, and adds what happens in it and what is handed out.
+// Makes an entry that notes no load, and adds what happens in it and what is handed out.
 fn tell_act(machine: &mut Machine, act: Act, answer: &mut Answer)
-    ensures { machine.new.config ≡ machine.old.config }
+    requires { is_load act ≡ false }
+    ensures config { machine.new.config ≡ machine.old.config }
+    ensures front { IsPrefix machine.old.journal machine.new.journal }
 {
     let entry = Entry { moment: 0, act };
     if let Some(Reply::Frame(frame)) = tell_entry(machine, &entry, answer) {
@@ -220,7 +225,9 @@ fn churn(machine: &mut Machine, rest: &str, answer: &mut Answer) {
 }
 
 // Makes an entry. Answers whether it was taken.
-fn enter(machine: &mut Machine, act: Act) -> bool {
+fn enter(machine: &mut Machine, act: Act) -> bool
+    requires { is_load act ≡ false }
+{
     machine.step(&Entry { moment: 0, act }).is_ok()
 }
 

@@ -41,7 +41,11 @@ pub(crate) fn tell_play(table: &Table, told: Told, answer: &mut Answer) {
     let Some(mut link) = answer.made(table.link(ROOM)) else {
         return;
     };
-    let end = play(answer.alloc(), &mut machine, &mut link);
+    let made = table.files_again();
+    let Some((mut files, name)) = answer.made(made) else {
+        return;
+    };
+    let end = play(answer.alloc(), &mut machine, &mut link, &mut files, &name);
     tell_played(told, table, &machine, link.written(), end, answer);
 }
 

@@ -2,6 +2,7 @@
 //! behind a case its answer, indented.
 #![tactic(auto)]
 
+mod again;
 mod replay;
 mod serves;
 mod telling;

@@ -1,5 +1,6 @@
 //! A journal is played again.
 
+use crate::again::enter_again;
 use fs_doc::read_config;
 use fs_machine::{Act, Journal, Machine, Reply};
 use fs_plan::Dialplan;
@@ -44,7 +45,7 @@ fn handed_out(
     };
     let mut bytes = Vec::new(alloc);
     for entry in journal.entries() {
-        match (machine.step(entry), &entry.act) {
+        match (enter_again(&mut machine, entry, alloc), &entry.act) {
             (Ok(Reply::Frame(frame)), Act::Take { conn }) if *conn == number => {
                 bytes.extend_from_slice(frame.as_bytes())?;
             }

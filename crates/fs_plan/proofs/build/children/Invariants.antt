@@ -9,5 +9,5 @@ invariant-loop-child g l = record {
   read : AreRead (expressions_of (take l.child-index l.list));
   sizes : g.P.Store.sizes l.patterns ≡ g.P.Store.sizes l.fn.patterns;
   counts : g.P.Store.counts l.patterns ≡ g.P.Store.counts l.fn.patterns;
-  loads : g.P.Store.next_load l.patterns ≡ g.P.Store.next_load l.fn.patterns;
+  loads : g.P.Store.loads l.patterns ≡ g.P.Store.loads l.fn.patterns;
 }

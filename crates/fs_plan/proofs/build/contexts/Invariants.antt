@@ -11,5 +11,5 @@ invariant-loop-given g l = record {
   before : l.before ≡ before l.list l.given-index;
   sizes : g.P.Store.sizes l.patterns ≡ g.P.Store.sizes l.fn.patterns;
   counts : g.P.Store.counts l.patterns ≡ g.P.Store.counts l.fn.patterns;
-  loads : g.P.Store.next_load l.patterns ≡ g.P.Store.next_load l.fn.patterns;
+  loads : g.P.Store.loads l.patterns ≡ g.P.Store.loads l.fn.patterns;
 }

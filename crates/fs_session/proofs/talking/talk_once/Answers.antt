@@ -1,4 +1,4 @@
-use Rattle.std.proofs.Common.{ap, sym, ◌∙◌}
+use Rattle.std.proofs.Common.{refl, ap, sym, ◌∙◌}
 use Rattle.fs_machine.specs.declared.entry.Act.TheVariants.{Dialed}
 use Rattle.fs_machine.proofs.ArrivalLemmas.{dialed_opens}
 use Rattle.fs_session.proofs.TalkLemmas.{may_count, ceased, told_talks}
@@ -26,7 +26,7 @@ returns-in-Ok-clause-talks g c =
 pub returns-in-Err-Step-clause-talks : goal.returns-in-Err-Step-clause-talks
 returns-in-Err-Step-clause-talks g c =
     let err = rw c.in-Err-Step.field-0-is at c.in-Err-Step.ensures.err in (
-      fails_for _ _ _ _ _ _ c.in-Err-Step.refusal c.in-Err-Step.ensures.later err.0 err.1
+      fails_for _ _ _ _ _ _ c.in-Err-Step.refusal refl c.in-Err-Step.ensures.later err.0 err.1
           (sym c.is_final.ensures ∙ c.if-is_final.true),
       may_count _ _ _ c.link_to-link.ensures.1,
     )

@@ -8,7 +8,7 @@ returns-in-Ok-clause-tries g c =
       before = ok.0;
       front = ok.1;
       act = c.act_of-act.result;
-      is = c.act_of-act.ensures;
+      is = c.act_of-act.ensures.exact;
       sees = ok.2;
       at = ok.3;
       more = ok.4;
@@ -19,5 +19,5 @@ returns-in-Ok-clause-tries g c =
 pub returns-in-Err-Step-clause-tries : goal.returns-in-Err-Step-clause-tries
 returns-in-Err-Step-clause-tries g c =
     let err = rw c.in-Err-Step.field-0-is at c.in-Err-Step.ensures.err in
-    fails_for _ _ _ _ _ _ c.in-Err-Step.refusal c.in-Err-Step.ensures.later err.0 err.1
+    fails_for _ _ _ _ _ _ c.in-Err-Step.refusal c.act_of-act.ensures.plain c.in-Err-Step.ensures.later err.0 err.1
     (sym c.is_final.ensures ∙ c.if-is_final.true)

@@ -3,7 +3,7 @@ use Rattle.fs_machine.specs.declared.due.DueActor.TheVariants as due
 use Rattle.fs_session.specs.declared.actor.Errand.TheVariants as errand
 use Rattle.fs_session.specs.Working.{plain}
 use Rattle.fs_session.proofs.SeekLemmas.{seeks_names}
-use Rattle.fs_session.proofs.WorkLemmas.{due_errand, works_idle, tries_due}
+use Rattle.fs_session.proofs.WorkLemmas.{due_errand, works_waiting, tries_due}
 use Rattle.fs_session.proofs.working.take_turn.Goals as goal
 
 pub talk-requires : goal.talk-requires
@@ -38,6 +38,6 @@ returns-in-Ok-errand_of-clause-tries g c =
 pub returns-in-Err-clause-tries : goal.returns-in-Err-clause-tries
 returns-in-Err-clause-tries g c =
     let answer = c.in-Ok.ensures.answer in
-    works_idle _ _ _ _ _ (record { front = c.look.ensures.later; same = c.look.ensures.kept.0; run = answer.run })
-    c.args.actor c.args.now c.in-Due.due c.in-Err.next (sym answer.stands.0 ∙ ap plain c.in-Due.is)
+    works_waiting _ _ _ _ _ (record { front = c.look.ensures.later; same = c.look.ensures.kept.0; run = answer.run })
+    c.args.actor c.args.now c.in-Due.due c.in-Err.worked (sym answer.stands.0 ∙ ap plain c.in-Due.is)
     (sym c.errand_of.ensures ∙ c.in-Err.is)

@@ -26,6 +26,7 @@ rounds-preserved g c =
           Keeps g.D.Link.Port.input g.D.Link.Port.output (Enters (g.C.Clock.tells c.args.clock.now) ⊥ None)
           (configured (opening_state c.args.book.now)) (seen pass) (mine pass ∷ met pass) [])
           (sym nothing.0) kept.keeps;
+      desk = ran.desk;
       count = ran.count ∙ kept.count;
       stand = ran.lanes;
       placed = λ slots before. ran.placed slots (kept.placed slots before);
@@ -40,4 +41,4 @@ returns-clause-keeps g c =
     let pass = c.rounds.pass in
     keeps_may g.D.Link.Port.input g.D.Link.Port.output (Enters tells ⊥ None) (Enters tells (Rose first last) None)
     (configured (opening_state c.args.book.now)) (seen pass) (mine pass ∷ met pass) []
-    (λ entry allowed. ((allowed.0.0, λ halts. absurd (allowed.0.1 halts)), allowed.1)) c.rounds.invariant.keeps
+    (λ entry allowed. ((allowed.0.0, λ halts. absurd (allowed.0.1 halts), allowed.0.2), allowed.1)) c.rounds.invariant.keeps

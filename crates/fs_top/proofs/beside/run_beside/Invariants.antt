@@ -3,7 +3,7 @@ use Rattle.std.specs.List.{All}
 use Rattle.fs_book.specs.Passes.{seen, mine, met, parts, opening_state, IsPassOf}
 use Rattle.fs_machine.specs.Turned.{configured}
 use Rattle.fs_top.specs.Lanes.{Keeps, Enters}
-use Rattle.fs_top.specs.Standing.{Stands, ArePlaced, HaveFailed}
+use Rattle.fs_top.specs.Standing.{DeskStands, Stands, ArePlaced, HaveFailed}
 use Rattle.fs_top.proofs.beside.run_beside.Given as goal
 
 abbrev pub invariant-rounds : goal.invariant-rounds
@@ -13,6 +13,7 @@ invariant-rounds g l = record {
   door_kept : l.door ≡ l.fn.door;
   keeps : Keeps g.D.Link.Port.input g.D.Link.Port.output (Enters (g.C.Clock.tells l.fn.clock) ⊥ None) (configured (opening_state l.fn.book))
       (seen l.pass) (mine l.pass ∷ met l.pass) [];
+  desk : DeskStands g.D.Link.Port.input g.D.Link.Port.output (g.C.Clock.tells l.fn.clock) l.fn.book l.desk;
   count : length l.lanes ≡ length l.fn.lanes;
   stand : All (Stands g.D.Link.Port.input g.D.Link.Port.output (g.C.Clock.tells l.fn.clock) l.fn.book) l.lanes;
   placed : (slots : ℕ) → ArePlaced slots l.fn.lanes → ArePlaced slots l.lanes;

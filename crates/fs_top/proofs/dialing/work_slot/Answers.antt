@@ -3,8 +3,8 @@ use Rattle.fs_top.specs.Standing.{SlotStands}
 use Rattle.fs_top.proofs.StandLemmas.{failed_as}
 use Rattle.fs_top.proofs.dialing.work_slot.Goals as goal
 
-pub talks-preserved : goal.talks-preserved
-talks-preserved g c =
+pub talks-preserved-in-Talk : goal.talks-preserved-in-Talk
+talks-preserved-in-Talk g c =
     let turns = c.run_lane_turns.ensures in
     record {
       stands =
@@ -14,6 +14,19 @@ talks-preserved g c =
           c.talk.ensures.failed from
           (failed_as g.O.Dialer.dial_faults from c.talks.lane c.run_lane_turns.new.lane turns.stands.0 turns.dialer turns.vain
           (c.talks.invariant.failed from before));
+    }
+
+pub talks-preserved : goal.talks-preserved
+talks-preserved g c =
+    let turns = c.run_lane_turns.ensures in
+    record {
+      stands =
+          subst
+          (λ (slot : ℕ). SlotStands g.L.Port.input g.L.Port.output (g.C.Clock.tells c.args.clock.now) c.args.book.now slot
+          c.run_lane_turns.new.lane) c.talks.invariant.stands.0 turns.stands;
+      failed = λ from before.
+          failed_as g.O.Dialer.dial_faults from c.talks.lane c.run_lane_turns.new.lane turns.stands.0 turns.dialer turns.vain
+          (c.talks.invariant.failed from before);
     }
 
 pub returns-in-Over-clause-failed : goal.returns-in-Over-clause-failed

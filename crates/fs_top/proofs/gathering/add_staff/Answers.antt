@@ -12,18 +12,16 @@ use Rattle.fs_top.proofs.gathering.add_staff.Goals as goal
 pub make_staff-requires-clause-run : goal.make_staff-requires-clause-run
 make_staff-requires-clause-run g c =
     λ _ _.
-    subst (λ (log : List Entry). IsJournal (configured (opening_state c.args.book.now)) log) (sym c.kinds.invariant.same.0) c.requires.run
+    subst (λ (log : List Entry). IsJournal (configured (opening_state c.args.book.now)) log) (sym c.links.invariant.same.0) c.requires.run
 
-pub kinds-preserved : goal.kinds-preserved
-kinds-preserved g c =
-    let was = c.kinds.invariant in
+pub links-preserved : goal.links-preserved
+links-preserved g c =
+    let was = c.links.invariant in
     let made = c.make_staff.ensures in
     let staff = c.in_ok-staff.staff in
-    let lanes = c.kinds.lanes.items in
+    let lanes = c.links.lanes.items in
     let pushed : c.push.new.self.items ≡ lanes ++ Staff staff ∷ [] = c.in_ok-push.ensures.items in
     record {
-      can = tt;
-      finite = tt;
       book = made.book;
       same = (made.same.0 ∙ was.same.0, made.same.1 ∙ was.same.1, made.same.2 ∙ was.same.2);
       counted = omega (arith, c.in_ok-staff.ensures.parts, was.counted, ap length pushed, length_push lanes (Staff staff));

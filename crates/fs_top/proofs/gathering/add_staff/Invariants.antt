@@ -5,10 +5,8 @@ use Rattle.fs_machine.specs.Turned.{configured}
 use Rattle.fs_top.specs.Standing.{Stands, ArePlaced, HaveFailed}
 use Rattle.fs_top.proofs.gathering.add_staff.Given as goal
 
-abbrev pub invariant-kinds : goal.invariant-kinds
-invariant-kinds g l = record {
-  can : (goal.iterator-kinds g).can_next l.kind-iterator;
-  finite : (goal.iterator-kinds g).is_finite l.kind-iterator;
+abbrev pub invariant-links : goal.invariant-links
+invariant-links g l = record {
   book : IsPassOf configured l.fn.book l.pass;
   same : (seen l.pass ≡ seen l.fn.pass) × (mine l.pass ≡ mine l.fn.pass) × (met l.pass ≡ met l.fn.pass);
   counted : parts l.pass + 2 * length l.lanes.items ≡ parts l.fn.pass + 2 * length l.fn.lanes.items;

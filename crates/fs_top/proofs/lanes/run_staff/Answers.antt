@@ -1,8 +1,8 @@
 use Rattle.fs_top.proofs.StandLemmas.{staff_told}
 use Rattle.fs_top.proofs.lanes.run_staff.Goals as goal
 
-pub work-requires-clause-stands : goal.work-requires-clause-stands
-work-requires-clause-stands g c =
+pub serve_staff-requires-clause-stands : goal.serve_staff-requires-clause-stands
+serve_staff-requires-clause-stands g c =
     λ _ _.
     staff_told g.L.Port.input g.L.Port.output (g.C.Clock.tells c.args.clock.now) (g.C.Clock.tells c.of_sleeper-clock.result) c.args.book.now _
     (λ moment told. (c.of_sleeper-clock.ensures moment).1 told) c.requires
@@ -10,4 +10,4 @@ work-requires-clause-stands g c =
 pub returns : goal.returns
 returns g c =
     staff_told g.L.Port.input g.L.Port.output (g.C.Clock.tells c.of_sleeper-clock.result) (g.C.Clock.tells c.args.clock.now) c.args.book.now _
-    (λ moment told. (c.of_sleeper-clock.ensures moment).0 told) c.work.ensures
+    (λ moment told. (c.of_sleeper-clock.ensures moment).0 told) c.serve_staff.ensures

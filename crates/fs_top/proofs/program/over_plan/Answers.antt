@@ -1,25 +1,28 @@
-use Rattle.std.proofs.Common.{Some, refl}
+use Rattle.std.proofs.Common.{Some, refl, []}
 use Rattle.fs_top.specs.Told.{Check, Hunt, told_asked}
-use Rattle.fs_top.proofs.RunLaws.{answers_quiet, answers_played, answers_loaded, text_anywhere, used_rests}
+use Rattle.fs_top.proofs.RunLaws.{answers_quiet, plan_alone, plan_played, plan_loaded, text_anywhere, used_rests}
 use Rattle.fs_top.proofs.program.over_plan.Goals as goal
 
 pub returns-in-Check : goal.returns-in-Check
 returns-in-Check g c =
+    let asked = Check c.in-Check.file.now in
     rw c.in-Check.is
-    (answers_quiet (told_asked (Check c.in-Check.file.now) c.args.config) (Some (Check c.in-Check.file.now)) _ _ _ _ _ c.check.ensures.input
-    (λ to. text_anywhere _ _ to _ _ _ (rw c.contexts.ensures at c.check.ensures.does)) (used_rests _ _ _ _ _ _ refl))
+    (plan_alone asked c.args.config _ _ _ _ _ _ refl
+    (answers_quiet (told_asked asked c.args.config []) (Some asked) _ _ _ _ _ c.check.ensures.input
+    (λ to. text_anywhere _ _ to _ _ _ (rw c.contexts.ensures at c.check.ensures.does)) (used_rests _ _ _ _ _ _ refl)))
 
 pub returns-in-Hunt : goal.returns-in-Hunt
 returns-in-Hunt g c =
     let asked = Hunt c.in-Hunt.file.now c.in-Hunt.context.now c.in-Hunt.dest.now in
     rw c.in-Hunt.is
-    (answers_quiet (told_asked asked c.args.config) (Some asked) _ _ _ _ _ c.hunt.ensures.input
-    (λ to. text_anywhere _ _ to _ _ _ (rw (c.requires.built, c.globals.ensures) at c.hunt.ensures.does)) (used_rests _ _ _ _ _ _ refl))
+    (plan_alone asked c.args.config _ _ _ _ _ _ refl
+    (answers_quiet (told_asked asked c.args.config []) (Some asked) _ _ _ _ _ c.hunt.ensures.input
+    (λ to. text_anywhere _ _ to _ _ _ (rw (c.requires.built, c.globals.ensures) at c.hunt.ensures.does)) (used_rests _ _ _ _ _ _ refl)))
 
 pub returns-in-Play : goal.returns-in-Play
-returns-in-Play g c = rw c.in-Play.is (answers_played c.args.config c.in-Play.file.now _ _ _ _ _ c.played.ensures)
+returns-in-Play g c = rw c.in-Play.is (plan_played c.args.config c.in-Play.file.now _ _ _ _ _ _ _ c.played.ensures)
 
 pub returns : goal.returns
 returns g c =
     rw c.in-Load.is
-    (answers_loaded c.args.config c.in-Load.count c.in-Load.start _ _ _ _ _ c.load.ensures.input c.load.ensures.does)
+    (plan_loaded c.args.config c.in-Load.count c.in-Load.start _ _ _ _ _ _ c.load.ensures.input c.load.ensures.does)

@@ -15,7 +15,7 @@ use Rattle.fs_top.proofs.serving.serve_to_end.Goals as goal
 pub run_beside-began-requires-clause-keeps : goal.run_beside-began-requires-clause-keeps
 run_beside-began-requires-clause-keeps g c =
     λ _ _.
-    keeps_none _ _ _ _ _ _ (c.in_ok-add_staff.ensures.same.0 ∙ c.in_ok-lanes.ensures.same.0 ∙ c.requires.first.0) c.requires.run
+    keeps_none _ _ _ _ _ _ (c.in_ok-desk.ensures.same.0 ∙ c.in_ok-add_staff.ensures.same.0 ∙ c.in_ok-lanes.ensures.same.0 ∙ c.requires.first.0) c.requires.run
 
 pub gather-requires-clause-placed : goal.gather-requires-clause-placed
 gather-requires-clause-placed g c =
@@ -40,6 +40,8 @@ returns-clause-parts g c =
       c.settle.ensures.kept.2,
       c.run_beside-began.ensures.parts,
       c.run_beside-began.ensures.count,
+      c.meet_desk.ensures.parts,
+      c.in_ok-desk.ensures.parts,
       c.in_ok-add_staff.ensures.parts,
       c.in_ok-lanes.ensures.parts,
       c.requires.first,
@@ -53,21 +55,21 @@ returns-clause-keeps g c =
     let from = g.D.Door.door_faults c.args.door.now in
     let to = g.D.Door.door_faults c.run_beside-began.new.door in
     let ran = c.run_beside-began.new.pass in
-    let before = c.gather.new.pass in
+    let before = c.meet_desk.new.pass in
     let after = c.settle.new.pass in
     let first =
     keeps_may input output (Enters tells (Rose from to) None) (MayEnter tells (Rose from to)) _ (seen ran) (mine ran ∷ met ran) _
     (λ entry entered. entered.0) c.run_beside-began.ensures.keeps in
     keeps_settled _ _ _ _ after.seat.me.0.start (seen before) (seen after) (mine before) (mine after) (met before) (met after) _
     c.settle.ensures.book.1 c.settle.ensures.later before.sound.places after.sound.owned c.settle.ensures.kept.0 c.settle.ensures.kept.1
-    c.settle.ensures.run (c.in_ok-gathered.ensures.keeps from to first)
+    c.settle.ensures.run (c.meet_desk.ensures.keeps from to (c.in_ok-gathered.ensures.keeps from to first))
 
 pub returns-clause-bounded : goal.returns-clause-bounded
 returns-clause-bounded g c =
     let tells = g.C.Clock.tells c.args.clock.now in
     let from = g.O.Dialer.dial_faults c.args.dialer.now in
     let ran = c.run_beside-began.new.pass in
-    let before = c.gather.new.pass in
+    let before = c.meet_desk.new.pass in
     let after = c.settle.new.pass in
     let rose = Rose (g.D.Door.door_faults c.args.door.now) (g.D.Door.door_faults c.run_beside-began.new.door) in
     let config = configured (opening_state c.args.book.now) in
@@ -82,6 +84,7 @@ returns-clause-bounded g c =
     (λ slot.
     vain_settled (seen before) (seen after) (mine before) (mine after) (met before) (met after) slot c.settle.ensures.later
     before.sound.places c.settle.ensures.kept.0 c.settle.ensures.kept.1)
+    (c.meet_desk.ensures.bounded from _
     (c.in_ok-gathered.ensures.bounded from (failed_all faults from c.run_beside-began.new.lanes _
     (lent_back c.add_staff.new.lanes.items c.as_mut_slice.result.now c.run_beside-began.new.lanes c.add_staff.new.lanes.len
-    c.as_mut_slice.ensures.value c.as_mut_slice.ensures.len c.run_beside-began.ensures.count) failed) none)
+    c.as_mut_slice.ensures.value c.as_mut_slice.ensures.len c.run_beside-began.ensures.count) failed) none))

@@ -21,6 +21,5 @@ prepare_hunted-requires c =
     ∙ (ap (λ (k : Configuration). run_from (empty k) c.self-2.inside.journal.entries) config
     ∙ ap (λ (j : List Entry). run_from (empty now.config) j) journal) in
     rw c.into_hunt.ensures
-    (plan_hunted c.self-2.inside.core.switch now.config c.args.slot c.args.plan
-    (c.self-2.invariant.4 ∙ ap (λ (k : Configuration). k.contexts) config) c.requires.suits
-    (subst (λ (s : Switch). IsCurrent c.args.slot c.args.plan s) (sym is) c.requires.current))
+    (plan_hunted now.config now.journal c.self-2.inside.core.switch c.args.now c.args.slot c.args.plan is c.requires.suits
+    (subst (λ (s : Switch). IsCurrent c.args.now c.args.slot c.args.plan s) (sym is) c.requires.current))

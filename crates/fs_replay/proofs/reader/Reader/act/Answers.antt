@@ -1,15 +1,18 @@
-use Rattle.std.proofs.Common.{◌≡◌, false, nat_eq, arith}
-use Rattle.std.proofs.lemmas.Bool.Decides.{nat_tests}
+use Rattle.std.proofs.Common.{arith}
 use Rattle.fs_replay.specs.Reading.{act_at}
-use Rattle.fs_replay.proofs.Mirrors.{bad_given}
+use Rattle.fs_replay.proofs.Mirrors.{off, bad_given}
 use Rattle.fs_replay.proofs.reader.Reader.act.Goals as goal
 
-pub returns-then-letter-eq67 : goal.returns-then-letter-eq67
+pub returns-in-67 : goal.returns-in-67
 unfolding act_at
-returns-then-letter-eq67 c = rw c.if-letter-eq67.true c.command.ensures
+returns-in-67 c = rw c.in-67.is c.command.ensures
 
-pub returns : goal.returns
+pub returns-in-76 : goal.returns-in-76
 unfolding act_at
-returns c =
-    let other : nat_eq c.args.letter 67 ≡ false = grind (arith, nat_tests) in
-    rw other (bad_given c.plain.result c.ok_or.result _ _ c.plain.ensures c.ok_or.ensures.value)
+returns-in-76 c = rw c.in-76.is c.loaded.ensures
+
+pub returns-in_default : goal.returns-in_default
+unfolding act_at
+returns-in_default c =
+    rw (off c.args.letter 67 (omega arith), off c.args.letter 76 (omega arith))
+    (bad_given c.plain.result c.ok_or.result _ _ c.plain.ensures c.ok_or.ensures.value)

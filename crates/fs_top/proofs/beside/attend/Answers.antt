@@ -1,0 +1,11 @@
+use denote.Exit.{no}
+use denote.Param.Send.{param_send, arg_send}
+use Rattle.fs_top.proofs.SendLemmas.{desk_send, text_sync, book_sync, muster_sync, desk_captures_send}
+use Rattle.fs_top.proofs.beside.attend.Goals as goal
+
+pub join_mut-began-requires-send-F : goal.join_mut-began-requires-send-F
+join_mut-began-requires-send-F g c κs o =
+    param_send _ _
+    (arg_send _ no _
+    (desk_captures_send _ _ _ _ _ _ _ _ _ _ _ _ _ _ _ _ c.type_bounds.sync-R book_sync c.type_bounds.sync-C muster_sync c.type_bounds.send-F
+    text_sync desk_send))

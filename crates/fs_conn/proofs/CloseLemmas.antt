@@ -35,7 +35,7 @@ use Rattle.fs_machine.proofs.CloseLaws.{ending_at, end_parts, take_leaves_phase,
 use Rattle.fs_machine.proofs.DueLaws.{AreKnown, run_is_known, slot_accepted, dial_accepted, job_accepted, load_accepted, IsDue, comes_due}
 use Rattle.fs_conn.specs.declared.end.End.{End}
 use Rattle.fs_conn.specs.declared.end.End.TheVariants.{JournalFull, Runaway}
-use Rattle.fs_conn.specs.Play.{Play, switch_of, new_play, is_over, with_end, after_judging, after_trying_act, repeated, after_due_work}
+use Rattle.fs_conn.specs.Play.{Play, switch_of, new_play, is_over, with_end, after_judging, after_trying_act, repeated}
 use Rattle.fs_conn.specs.Play.{next_actor, after_due_step, with_runaway_end_by, after_settling, after_waiting_until, after_waiting_once}
 use Rattle.fs_conn.specs.Play.{after_waiting, after_taking_all, after_act, reads_on, takes_commands, after_command, after_commands}
 use Rattle.fs_conn.specs.Play.{after_opening, after_input_end, after_conversing, after_closing, farewell, end_behind, played}

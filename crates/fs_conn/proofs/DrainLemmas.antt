@@ -24,7 +24,6 @@ use Rattle.fs_machine.proofs.RunLemmas.{run_more}
 use Rattle.fs_machine.proofs.FramesLaws.{handed_first, handed_sent, closed_waits_not, take_leaves_rest, IsUnfailed, AreUnfailed}
 use Rattle.fs_machine.proofs.FramesLaws.{unfailed_more, handed_unfailed}
 use Rattle.fs_conn.specs.declared.end.End.{End}
-use Rattle.fs_conn.specs.declared.end.End.TheVariants.{Runaway}
 use Rattle.fs_conn.specs.Play.{Play, switch_of, bytes_handed, new_play, is_over, with_end, after_judging, after_trying_act, repeated}
 use Rattle.fs_conn.specs.Play.{after_settling, after_waiting, after_taking_all, after_act, reads_on, takes_commands, after_command}
 use Rattle.fs_conn.specs.Play.{after_commands, after_opening, after_input_end, after_conversing, after_closing, farewell, end_behind}

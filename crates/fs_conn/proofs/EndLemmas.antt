@@ -13,7 +13,7 @@ use Rattle.fs_conn.specs.declared.stop.Stop.{Stop}
 use Rattle.fs_conn.specs.declared.stop.Stop.TheVariants.{Over, OutOfMemory, WriteFault}
 use Rattle.fs_conn.specs.Play.{Play, new_play, bytes_handed, output_of, after_opening}
 use Rattle.fs_conn.specs.Play.{after_conversing, played}
-use Rattle.fs_conn.specs.Steps.{is_early, IsPlayFront, Halts, Clears}
+use Rattle.fs_conn.specs.Steps.{IsPlayFront, Halts, Clears}
 use Rattle.fs_conn.specs.Playing.{Playing, play_of, so_far, ReadsNothing, OnlyPlays}
 use Rattle.fs_conn.specs.Turns.{is_told, at_early_end, FailsAt, Concludes, Stops, Finishes, Breaks, BreaksAt, WantsMemory, all_written}
 use Rattle.fs_conn.specs.Turns.{then_failed, failed_before, ClosesFailed, Plays}

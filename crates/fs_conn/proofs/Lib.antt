@@ -6,7 +6,7 @@ mod SendLemmas
 mod WriteLemmas
 mod KeepLemmas
 mod HereLemmas
-mod NoteLemmas
+pub mod NoteLemmas
 mod LoadLemmas
 mod HeldLemmas
 mod TurnLemmas

@@ -1,11 +1,10 @@
 -- What a play loads, step by step.
-use Rattle.std.proofs.Common.{◌≡◌, ℕ, zero, suc, ◌+◌, false, List, [], ◌∷◌, ◌++◌, length, Option, Some, Result, Ok, Err, ◌⊎◌, inl, inr}
+use Rattle.std.proofs.Common.{◌≡◌, ℕ, zero, suc, ◌+◌, false, List, [], ◌∷◌, ◌++◌, length, Some, Result, Ok, Err, ◌⊎◌, inl, inr}
 use Rattle.std.proofs.Common.{refl, sym, ap, ◌∙◌, subst, append_assoc, append-nil, length-append, arith}
 use Rattle.std.specs.Prelude.{slice_get}
 use Rattle.std.proofs.lemmas.Option.{none-some, same_Some}
 use mathlib.Core.List.{IsPrefix}
 use Rattle.fs_ports.specs.Loads.{LoadCounts}
-use Rattle.fs_ports.specs.declared.files.Load.{Load}
 use Rattle.fs_book.proofs.Lists.{prefix_trans, prefix_get}
 use Rattle.fs_machine.specs.declared.entry.Entry.{Entry}
 use Rattle.fs_machine.specs.declared.entry.Act.{Act}
@@ -20,7 +19,7 @@ use Rattle.fs_conn.specs.declared.end.End.TheVariants as ends
 use Rattle.fs_conn.specs.declared.stop.Stop.{Stop}
 use Rattle.fs_conn.specs.declared.stop.Stop.TheVariants.{Over, OutOfMemory, WriteFault}
 use Rattle.fs_conn.specs.Play.{note_in, noted}
-use Rattle.fs_conn.specs.Filed.{FileView, file_view}
+use Rattle.fs_conn.specs.Filed.{FileView}
 use Rattle.fs_conn.specs.Loads as spec
 use Rattle.fs_conn.specs.Loads.{MovesBy, CountsOne, CountsAll, HasLoaded, HasLoadedOrBegun, MayHaveLoaded, Begun, LoadsBy}
 use Rattle.fs_conn.specs.Playing.{Playing, AreNotes, Adds, AddsOrBegins, LoadsStopped, LoadsEnded, Loads}
@@ -356,11 +355,3 @@ pub loads_first : (file : FileView) (journal : List Entry) → journal ≡ [] �
 unfolding LoadsBy
 loads_first file journal none =
     subst (λ (entries : List Entry). HasLoadedOrBegun file file (noted entries)) (sym none) (begun_none file file [] (loaded_none file))
-
--- what was loaded is told by what is given back: the same files, name and journal
-pub loads_given : {F : Type 0} → (loads : F → List ℕ → ℕ → Option Load) (counts : F → LoadCounts) (sizes : F → ℕ) (end : End)
-    (first : FileView) (files given : F) (name same : List ℕ) (journal last : List Entry) → given ≡ files → same ≡ name → last ≡ journal →
-    LoadsBy end first (file_view (loads files name) (counts files) (sizes files)) (noted journal) →
-    LoadsBy end first (file_view (loads given same) (counts given) (sizes given)) (noted last)
-loads_given loads counts sizes end first files given name same journal last files_is name_is journal_is h =
-    rw (files_is, name_is, journal_is) h

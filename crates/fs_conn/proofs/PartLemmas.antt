@@ -29,7 +29,6 @@ use Rattle.fs_machine.proofs.FramesLaws.{settings_run}
 use Rattle.fs_machine.proofs.FrameLemmas.{command_refused}
 use Rattle.fs_machine.proofs.PartLemmas.{others_part, take_keeps, CommandParts, command_parts, none_parted, arrival_unparted}
 use Rattle.fs_conn.specs.declared.end.End.{End}
-use Rattle.fs_conn.specs.declared.end.End.TheVariants.{Runaway}
 use Rattle.fs_conn.specs.Play.{Play, switch_of, new_play, is_over, after_judging, after_trying_act, reads_on, takes_commands, after_act}
 use Rattle.fs_conn.specs.Play.{after_command, after_commands, after_opening, after_conversing, after_closing}
 use Rattle.fs_conn.specs.Steps.{entry_of}

@@ -1,24 +1,20 @@
 -- How what is due is worked, and how a reply that is owed is waited for.
-use Rattle.std.proofs.Common.{◌≡◌, ℕ, suc, ◌+◌, ◌-◌, ◌^◌, ◌<◌, ◌≤◌, true, false, not, ◌&&◌, cond, [], Option, None, Some, is_some, Result}
-use Rattle.std.proofs.Common.{Ok, Err, refl, sym, ap, ◌∙◌, subst, arith}
+use Rattle.std.proofs.Common.{◌≡◌, ℕ, suc, ◌+◌, ◌-◌, ◌^◌, ◌<◌, ◌≤◌, true, false, not, ◌&&◌, cond, Option, None, Some}
+use Rattle.std.proofs.Common.{refl, sym, ap, ◌∙◌, subst, arith}
 use Rattle.fs_machine.specs.declared.due.DueActor.{DueActor}
 use Rattle.fs_machine.specs.declared.due.DueActor.TheVariants as due
-use Rattle.fs_machine.specs.declared.entry.Act.{Act}
-use Rattle.fs_machine.specs.declared.entry.Act.TheVariants.{Dialed, Work, Job}
-use Rattle.fs_machine.specs.declared.reply.Reply.{Reply}
 use Rattle.fs_machine.specs.Questions.{owes}
-use Rattle.fs_machine.specs.Frames.{handed_in}
 use Rattle.fs_machine.specs.Owed.{AreOwed}
 use Rattle.fs_machine.proofs.OwedLaws as owed_laws
 use Rattle.fs_conn.specs.declared.end.End.TheVariants.{Runaway}
 use Rattle.fs_conn.specs.declared.stop.Stop.{Stop}
 use Rattle.fs_conn.specs.declared.stop.Stop.TheVariants.{Over}
-use Rattle.fs_conn.specs.Play.{Play, switch_of, is_over, with_end, after_trying_act, repeated, after_due_work, next_actor, after_due_step}
+use Rattle.fs_conn.specs.Play.{Play, switch_of, is_over, with_end, repeated, next_actor, after_due_step}
 use Rattle.fs_conn.specs.Play.{with_runaway_end_by, with_runaway_end, after_settling, after_waiting_until, after_waiting_once}
 use Rattle.fs_conn.specs.Play.{after_waiting, after_settling_as, after_waiting_as}
-use Rattle.fs_conn.specs.Steps.{Halts, Enters, Works, is_due}
+use Rattle.fs_conn.specs.Steps.{Halts, is_due}
 use Rattle.fs_conn.proofs.PlayLemmas.{goes_stopped, goes_worked_once, goes_all_waited, worked_none}
-use Rattle.fs_conn.proofs.StepLemmas.{halts_on, does_enters, works_enters}
+use Rattle.fs_conn.proofs.StepLemmas.{halts_on}
 use Rattle.fs_conn.proofs.RoundLemmas.{repeated_none, repeated_more, round_stops, round_stops_at}
 
 -- ---- what is due

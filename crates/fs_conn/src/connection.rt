@@ -54,13 +54,12 @@ pub fn play<L: Link, F: Files>(
     let Play {
         machine: _machine,
         wire,
-        file,
+        file: ConfigFile {
+            files: _files,
+            name: _name,
+        },
         ..
     } = play;
-    let ConfigFile {
-        files: _files,
-        name: _name,
-    } = file;
     let Wire {
         link: _link,
         unsent: _unsent,

@@ -3,7 +3,7 @@ use Rattle.fs_conn.specs.Play.{noted}
 use Rattle.fs_conn.specs.Playing.{Lent}
 use Rattle.fs_conn.specs.Wired.{Wired}
 use Rattle.fs_conn.proofs.EndLemmas.{wants_first}
-use Rattle.fs_conn.proofs.NoteLemmas.{loads_first, loads_given}
+use Rattle.fs_conn.proofs.NoteLemmas.{loads_first}
 use Rattle.fs_conn.proofs.connection.play.Goals as goal
 
 pub returns-in-Err-clause-plays : goal.returns-in-Err-clause-plays
@@ -27,6 +27,5 @@ pub returns-clause-loads : goal.returns-clause-loads
 returns-clause-loads g c =
     let machine = sym (ap (λ (l : Lent). l.machine) c.whole-end.ensures.lent) in
     let files = sym (ap (λ (l : Lent). l.files) c.whole-end.ensures.lent) in
-    loads_given g.F.Store.loads g.F.Store.counts g.F.Store.sizes c.whole-end.result _ c.whole-end.new.self.file.files.now _
-    c.whole-end.new.self.file.name.now c.args.name.now c.whole-end.new.self.machine.now.journal _ (grind (c.whole-end.ensures.lent, rules))
-    (sym (ap (λ (l : Lent). l.name) c.whole-end.ensures.lent)) (grind (machine, rules)) c.whole-end.ensures.loads
+    let name = sym (ap (λ (l : Lent). l.name) c.whole-end.ensures.lent) in
+    grind (machine, files, name, c.whole-end.ensures.loads, rules)

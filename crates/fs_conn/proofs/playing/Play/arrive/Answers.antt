@@ -1,7 +1,7 @@
 use Rattle.std.proofs.Common.{Ok, Err}
 use Rattle.std.proofs.lemmas.Result.{err_from_is_err_and}
 use Rattle.fs_conn.proofs.StepLemmas.{does_with}
-use Rattle.fs_conn.proofs.NoteLemmas.{loads_adds, adds_none}
+use Rattle.fs_conn.proofs.NoteLemmas.{loads_adds}
 use Rattle.fs_machine.specs.declared.entry.Act.TheVariants.{Arrive}
 use Rattle.fs_conn.specs.Playing.{seen, so_far}
 use Rattle.fs_conn.proofs.HereLemmas.{never_turned_away, here_arrived}

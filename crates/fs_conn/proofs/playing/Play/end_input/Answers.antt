@@ -1,11 +1,11 @@
-use Rattle.std.proofs.Common.{Ok, Err, refl, sym, ap, cond, ◌∙◌, subst}
+use Rattle.std.proofs.Common.{Ok, Err, refl, sym, ◌∙◌}
 use Rattle.std.proofs.lemmas.Result.{err_from_is_err_and}
 use Rattle.fs_machine.specs.declared.entry.Act.TheVariants.{Close}
 use Rattle.fs_machine.specs.declared.entry.Closing.TheVariants.{EndOfInput}
-use Rattle.fs_conn.specs.Playing.{seen, play_of, so_far, HasFilledSo}
+use Rattle.fs_conn.specs.Playing.{seen, so_far, HasFilledSo}
 use Rattle.fs_conn.proofs.StepLemmas.{does_with, enters_with, works_enters}
 use Rattle.fs_conn.proofs.SendLemmas.{only_same, reads_only, reads_then, writing_none, sends_later, sends_entered}
-use Rattle.fs_conn.proofs.NoteLemmas.{notes_then, adds_none, stopped_adds, loads_then}
+use Rattle.fs_conn.proofs.NoteLemmas.{adds_none, stopped_adds, loads_then}
 use Rattle.fs_conn.proofs.TurnLemmas.{input_ended_none, input_ended_by, input_ended_stops}
 use Rattle.fs_conn.proofs.playing.Play.end_input.Goals as goal
 

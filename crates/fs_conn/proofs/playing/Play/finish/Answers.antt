@@ -6,7 +6,7 @@ use Rattle.fs_conn.specs.Play.{after_trying_act, after_input_end}
 use Rattle.fs_conn.specs.Playing.{seen, play_of, so_far, HasFilledSo, MayClose}
 use Rattle.fs_conn.proofs.PlayLemmas.{goes_entered}
 use Rattle.fs_conn.proofs.StepLemmas.{halts_on, enters_with, works_enters}
-use Rattle.fs_conn.proofs.NoteLemmas.{notes_still, notes_stopped, adds_same, adds_then, stopped_adds}
+use Rattle.fs_conn.proofs.NoteLemmas.{notes_still, adds_same, adds_then, stopped_adds}
 use Rattle.fs_conn.proofs.SendLemmas.{seen_over, reads_only, reads_then, reads_unread, writing_none, writing_then, writing_cleared}
 use Rattle.fs_conn.proofs.SendLemmas.{sends_later, sends_entered}
 use Rattle.fs_conn.proofs.SendLemmas.{sends_point, sends_before_close, halts_before_close, does_closed, halts_closed}

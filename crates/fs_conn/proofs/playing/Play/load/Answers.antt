@@ -1,4 +1,4 @@
-use Rattle.std.proofs.Common.{[], Some, Ok, refl, sym, ap, ◌∙◌}
+use Rattle.std.proofs.Common.{[], Some, Ok, refl, sym, ◌∙◌}
 use Rattle.std.proofs.lemmas.Result.{err_from_is_err_and}
 use Rattle.fs_machine.specs.declared.entry.Act.TheVariants.{Loaded}
 use Rattle.fs_conn.specs.Play.{switch_of}

@@ -1,8 +1,8 @@
 use Rattle.std.proofs.Common.{Ok, Err, refl}
 use Rattle.std.proofs.lemmas.Result.{err_from_is_err_and}
 use Rattle.fs_machine.specs.declared.entry.Act.TheVariants.{Take}
-use Rattle.fs_conn.specs.Playing.{seen, play_of, so_far, HasFilledSo}
-use Rattle.fs_conn.proofs.StepLemmas.{does_with, enters_with, works_enters}
+use Rattle.fs_conn.specs.Playing.{seen, so_far, HasFilledSo}
+use Rattle.fs_conn.proofs.StepLemmas.{does_with, enters_with}
 use Rattle.fs_conn.proofs.NoteLemmas.{adds_same, stopped_adds, loads_adds}
 use Rattle.fs_conn.proofs.SendLemmas.{seen_over, take_replies, frame_does, frame_sends, writing_none, sends_entered, none_entered}
 use Rattle.fs_conn.proofs.playing.Play.send_frame.Goals as goal

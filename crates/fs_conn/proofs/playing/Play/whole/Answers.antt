@@ -1,4 +1,4 @@
-use Rattle.std.proofs.Common.{refl, ◌∙◌}
+use Rattle.std.proofs.Common.{◌∙◌}
 use Rattle.fs_book.proofs.Lists.{prefix_self}
 use Rattle.fs_conn.specs.Play.{noted}
 use Rattle.fs_conn.specs.Playing.{seen}

@@ -9,6 +9,7 @@ use denote.Struct.Field.{row_field}
 use denote.Param.Send.{IsSend, IsSync, shr_send, shr_sync, mut_send, mut_slice_send, sendable}
 use denote.Param.SendFields.{declared_send, declared_sync, variants_send, as_row_send, as_row_sync}
 use denote.Builtin.{u32}
+use Rattle.std.specs.Prelude.{codes}
 use Rattle.std.specs.contracts.alloc.Global as Global
 use Rattle.std.below.core.specs.contracts.marker.ClosureMark as Mark
 use Rattle.std.proofs.Crossing.{crosses, Arc-send, Vec-send}
@@ -132,18 +133,21 @@ slice_captures_send ν A B C D E F ℓ ℓ' ℓ'' ℓ''' κ κ' a b c d e f =
     )
 
 -- what a closure has of a type that it names and captures nothing of
-mark_send : (T : RattleType) → IsSend (Mark.the_row T)
-mark_send T = declared_send (Mark.the_type T) tt
+abbrev pub named : RattleType → RattleType
+named T = Mark.the_row (TupleAt (codes "(_,)") (T ∷ []))
+
+named_send : (T : RattleType) → IsSend (named T)
+named_send T = declared_send (Mark.the_type (TupleAt (codes "(_,)") (T ∷ []))) tt
 
 -- what a closure captures: a `&` to each of four, a `&mut`, a `&` and a `&mut`; and it names a type more
 pub desk_captures_send : (ν : Sym) (A B C D E F G H : RattleType) (ℓ ℓ' ℓ'' ℓ''' κ κ' κ'' : NamedLft) → IsSync A → IsSync B → IsSync C →
     IsSync D → IsSend E → IsSync F → IsSend G →
     IsSend (TupleAt ν (ShrRef ℓ.mir ℓ.lft A ∷ ShrRef ℓ'.mir ℓ'.lft B ∷ ShrRef ℓ''.mir ℓ''.lft C ∷ ShrRef ℓ'''.mir ℓ'''.lft D
-    ∷ MutRef κ.mir κ.lft E ∷ ShrRef κ'.mir κ'.lft F ∷ MutRef κ''.mir κ''.lft G ∷ Mark.the_row H ∷ []))
+    ∷ MutRef κ.mir κ.lft E ∷ ShrRef κ'.mir κ'.lft F ∷ MutRef κ''.mir κ''.lft G ∷ named H ∷ []))
 desk_captures_send ν A B C D E F G H ℓ ℓ' ℓ'' ℓ''' κ κ' κ'' a b c d e f g =
     declared_send
     (type_at ν (ShrRef ℓ.mir ℓ.lft A ∷ ShrRef ℓ'.mir ℓ'.lft B ∷ ShrRef ℓ''.mir ℓ''.lft C ∷ ShrRef ℓ'''.mir ℓ'''.lft D
-    ∷ MutRef κ.mir κ.lft E ∷ ShrRef κ'.mir κ'.lft F ∷ MutRef κ''.mir κ''.lft G ∷ Mark.the_row H ∷ [])) (
+    ∷ MutRef κ.mir κ.lft E ∷ ShrRef κ'.mir κ'.lft F ∷ MutRef κ''.mir κ''.lft G ∷ named H ∷ [])) (
       as_row_send (row_field (ShrRef ℓ.mir ℓ.lft A)) (shr_send ℓ.mir ℓ.lft A a),
       (
         as_row_send (row_field (ShrRef ℓ'.mir ℓ'.lft B)) (shr_send ℓ'.mir ℓ'.lft B b),
@@ -157,7 +161,7 @@ desk_captures_send ν A B C D E F G H ℓ ℓ' ℓ'' ℓ''' κ κ' κ'' a b c d 
                 as_row_send (row_field (ShrRef κ'.mir κ'.lft F)) (shr_send κ'.mir κ'.lft F f),
                 (
                   as_row_send (row_field (MutRef κ''.mir κ''.lft G)) (mut_send κ''.mir κ''.lft G g),
-                  (as_row_send (row_field (Mark.the_row H)) (mark_send H), tt),
+                  (as_row_send (row_field (named H)) (named_send H), tt),
                 ),
               ),
             ),

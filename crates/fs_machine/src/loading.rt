@@ -118,18 +118,22 @@ impl NewPlan {
                 built: Some((config, plan)),
                 fault: None,
             }),
-            Err(PlanFault::PatternRefused {
-                extension,
-                condition,
-            }) => Ok(NewPlan::without(LoadNote::PatternRefused {
+            Err(
+                PlanFault::PatternRefused {
+                    extension,
+                    condition,
+                },
+            ) => Ok(NewPlan::without(LoadNote::PatternRefused {
                 text,
                 extension,
                 condition,
             })),
-            Err(PlanFault::PatternTooLarge {
-                extension,
-                condition,
-            }) => Ok(NewPlan::without(LoadNote::PatternTooLarge {
+            Err(
+                PlanFault::PatternTooLarge {
+                    extension,
+                    condition,
+                },
+            ) => Ok(NewPlan::without(LoadNote::PatternTooLarge {
                 text,
                 extension,
                 condition,

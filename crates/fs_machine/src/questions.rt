@@ -20,9 +20,9 @@ use crate::due::{DueActor, due_among_all, due_among_jobs, due_in_slot, waits_for
 use crate::machine::{Machine, full_journal};
 use crate::refusal::Refusal;
 use crate::refused::reads;
-use fs_state::{Core, Counts, Draft, Parting, Phase, Seen};
 use fs_doc::Config;
 use fs_plan::Dialplan;
+use fs_state::{Core, Counts, Draft, Parting, Phase, Seen};
 use fs_text::{Memory, Txt};
 use std::sync::Arc;
 

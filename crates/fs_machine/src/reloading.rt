@@ -188,7 +188,12 @@ fn document_fault_text(alloc: Global, fault: DocFault) -> Result<Txt, Memory>
 fn pattern_refused_text(alloc: Global, extension: u32, condition: u32) -> Result<Txt, Memory>
     ensures { IfOk result (λ t. t ≡ spec.pattern_refused_text extension condition) }
 {
-    placed_text(alloc, b"-ERR pattern refused in extension ", extension, condition)
+    placed_text(
+        alloc,
+        b"-ERR pattern refused in extension ",
+        extension,
+        condition,
+    )
 }
 
 // A pattern is too large.
@@ -196,16 +201,16 @@ fn pattern_refused_text(alloc: Global, extension: u32, condition: u32) -> Result
 fn pattern_too_large_text(alloc: Global, extension: u32, condition: u32) -> Result<Txt, Memory>
     ensures { IfOk result (λ t. t ≡ spec.pattern_too_large_text extension condition) }
 {
-    placed_text(alloc, b"-ERR pattern too large in extension ", extension, condition)
+    placed_text(
+        alloc,
+        b"-ERR pattern too large in extension ",
+        extension,
+        condition,
+    )
 }
 
 // A text, and behind it where the pattern of a condition stands.
-fn placed_text(
-    alloc: Global,
-    front: &[u8],
-    extension: u32,
-    condition: u32,
-) -> Result<Txt, Memory>
+fn placed_text(alloc: Global, front: &[u8], extension: u32, condition: u32) -> Result<Txt, Memory>
     ensures { IfOk result (λ t. t ≡ front.now ++ spec.pattern_place extension condition) }
 {
     let mut text = Vec::new(alloc);

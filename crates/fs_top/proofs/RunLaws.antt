@@ -297,6 +297,7 @@ noted_all old new notes loaded = record {
 
 -- what a play loaded, by its end
 reloads_by : (end : End) (old new : FileView) (notes : List LoadNote) → LoadsBy end old new notes → ReloadsAs Player (Ended end) old new notes
+unfolding LoadsBy
 reloads_by ends.Exit old new notes loads = (noted_all old new notes loads, λ _. loads)
 reloads_by ends.Eof old new notes loads = (noted_all old new notes loads, λ _. loads)
 reloads_by ends.AuthRefused old new notes loads = (noted_all old new notes loads, λ _. loads)
@@ -318,6 +319,7 @@ plays_anew c notes view0 view1 in0 out0 in1 out1 end journal plays loads =
 -- memory was wanting before any
 pub plays_nothing : (c : Configuration) (view : FileView) (in0 : Input) (out0 : Output) →
     PlaysAnew c view view in0 out0 in0 out0 (Ended ends.Memory)
+unfolding LoadsBy
 plays_nothing c view in0 out0 = record {
   notes = [];
   reloaded = reloads_by ends.Memory view view [] (noted_all view view [] (loaded_none view));
@@ -326,6 +328,7 @@ plays_nothing c view in0 out0 = record {
 
 -- nothing is loaded again where memory was wanting before
 reloads_none : (asked : Asked) (view : FileView) → ReloadsAs (reloader_of asked) (Ended ends.Memory) view view []
+unfolding LoadsBy
 reloads_none (Check file) view = (refl, refl)
 reloads_none (Hunt file context dest) view = (refl, refl)
 reloads_none (Play file) view = reloads_by ends.Memory view view [] (noted_all view view [] (loaded_none view))

@@ -1,4 +1,4 @@
-use Rattle.std.proofs.Common.{refl, sym}
+use Rattle.std.proofs.Common.{sym}
 use Rattle.fs_top.specs.Reading.{asked_seen}
 use Rattle.fs_top.proofs.RunLaws.{runs_given}
 use Rattle.fs_top.proofs.program.over_asked.Goals as goal

@@ -1,5 +1,8 @@
 //! Entries of a journal are entered again.
 
+ghost use Rattle.std.specs.Prelude.{IfOk};
+ghost use Rattle.fs_machine.specs.Loading.{IsLoad};
+
 use fs_machine::{Act, Entry, LoadNote, Machine, NewPlan, Refusal, Reply};
 use fs_ports::MemFiles;
 use fs_text::{Memory, Txt};
@@ -19,7 +22,9 @@ pub(crate) fn enter_again(
 }
 
 // Loads a document that answers as it is noted; that a pattern of it is too large is not made to come again.
-fn load_again(alloc: Global, note: &LoadNote) -> Result<NewPlan, Memory> {
+fn load_again(alloc: Global, note: &LoadNote) -> Result<NewPlan, Memory>
+    ensures { IfOk result IsLoad }
+{
     let name = Txt::of(alloc, b"f")?;
     let file = (name.copy()?, Txt::of(alloc, note.document())?);
     let mut files = match note {

@@ -67,7 +67,7 @@ module _ {L : Type 0} (input : L → Input) (output : L → Output) (may : ℕ �
       subst (λ (ms : List (List ℕ)). Keeps input output (Enters may rose None) config seen' (mine' ∷ ms) conns) (sym met_is)
       (keeps_entered input output (Enters may rose None) config start seen h.before seen' mine mine' met conns (length h.before)
       (entry_at h.moment Halt) is h.front h.sees refl h.more refl (λ n opened. none-some n opened)
-      ((h.told, λ _. has, tt), λ slot linked dialed. absurd (cc dialed)) h.run below
+      ((h.told, λ _. has, tt), λ slot linked dialed. absurd (cc dialed), λ job note loaded. absurd (cc loaded)) h.run below
       (subst (λ (ms : List (List ℕ)). Owned opens names start (mine' ∷ ms) seen') met_is owned) keeps)
   keeps_halts (inr h) =
       keeps_looked input output (Enters may rose None) config start seen seen' mine mine' met met' conns is h.front h.same met_is below owned
@@ -80,4 +80,4 @@ pub may_halt : {L : Type 0} (input : L → Input) (output : L → Output) (may :
     → Keeps input output (Enters may (Rose old new) None) config seen lists conns
 may_halt input output may config seen lists conns old now new rose keeps =
     keeps_may input output (Enters may (Rose old now) None) (Enters may (Rose old new) None) config seen lists conns
-    (λ entry told. ((told.0.0, λ is. rose (told.0.1 is), told.0.2), told.1)) keeps
+    (λ entry told. ((told.0.0, λ is. rose (told.0.1 is), told.0.2), told.1, told.2)) keeps

@@ -25,6 +25,7 @@ use Rattle.fs_machine.specs.Turned.{IsJournal, comes_after, opens, names}
 use Rattle.fs_conn.specs.declared.end.End.{End}
 use Rattle.fs_conn.proofs.ToldLemmas.{told_up}
 use Rattle.fs_top.specs.declared.conns.Conn.{Conn}
+use Rattle.fs_session.specs.declared.actor.Actor.{Actor}
 use Rattle.fs_top.specs.Lanes.{IsHeld, IsServed, AreAll, AreOnce, MayEnter, Enters, number_of, Keeps}
 use Rattle.fs_top.specs.Headline.{Headline}
 
@@ -49,12 +50,12 @@ module _ {X : Type 0} where
   got_left (z ∷ xs) ys (suc k) x at = let r = got_left xs ys k x at in (suc r.0, r.1)
 
   -- so does what stands in the second
-  got_right : (xs ys : List X) (k : ℕ) (x : X) → get_elem? ys k ≡ some x → (j : ℕ) × (get_elem? (xs ++ ys) j ≡ some x)
+  pub got_right : (xs ys : List X) (k : ℕ) (x : X) → get_elem? ys k ≡ some x → (j : ℕ) × (get_elem? (xs ++ ys) j ≡ some x)
   got_right [] ys k x at = (k, at)
   got_right (z ∷ xs) ys k x at = let r = got_right xs ys k x at in (suc r.0, r.1)
 
   -- what stands in both together stands in one of them
-  got_either : (xs ys : List X) (k : ℕ) (x : X) → get_elem? (xs ++ ys) k ≡ some x →
+  pub got_either : (xs ys : List X) (k : ℕ) (x : X) → get_elem? (xs ++ ys) k ≡ some x →
       ((j : ℕ) × (get_elem? xs j ≡ some x)) ⊎ ((j : ℕ) × (get_elem? ys j ≡ some x))
   got_either [] ys k x at = inr (k, at)
   got_either (z ∷ xs) ys zero x at = inl (zero, at)
@@ -102,7 +103,7 @@ once_inside : (p n : ℕ) → p < n → once_below p n ≡ 1
 once_inside p n inside = grind (arith, nat_tests)
 
 -- a place below the length stands in one of the lists
-in_lists : (lists : List (List ℕ)) (p n : ℕ) → total (times p) lists ≡ once_below p n → p < n →
+pub in_lists : (lists : List (List ℕ)) (p n : ℕ) → total (times p) lists ≡ once_below p n → p < n →
     (k : ℕ) × (l : List ℕ) × (get_elem? lists k ≡ some l) × (0 < times p l)
 in_lists lists p n once inside = find (times p) lists (omega (arith, once, once_inside p n inside))
 
@@ -312,5 +313,5 @@ keeps_joined {L} input output may may1 may2 config start seen1 seen2 seen' mine1
     may may1 may2 conns1 conns2 weaker1 weaker2 keeps1 keeps2))
 
 -- what a lane may enter that never halts the switch may be entered
-pub enters_less : (may : ℕ → Type 0) (halts : Type 0) (own : Option ℕ) (entry : Entry) → Enters may ⊥ own entry → MayEnter may halts entry
+pub enters_less : (may : ℕ → Type 0) (halts : Type 0) (own : Option Actor) (entry : Entry) → Enters may ⊥ own entry → MayEnter may halts entry
 enters_less may halts own entry entered = (entered.0.0, λ halt. absurd (entered.0.1 halt), entered.0.2)

@@ -251,7 +251,7 @@ named_noted conn (Loaded number note) named = absurd (none-some conn named)
 named_noted conn Halt named = tt
 
 -- what a served link leaves, whose connection came by an entry of the pass
-module _ (may : ℕ → Type 0) (halts : Type 0) (own : Option ℕ) (config : Configuration) (start : Option Configuration)
+module _ (may : ℕ → Type 0) (halts : Type 0) (own : Option Actor) (config : Configuration) (start : Option Configuration)
     (is : start ≡ Some config) (seen seen' seen'' : List Entry) (mine mine' mine'' : List ℕ) (met : List (List ℕ))
     (below : (k : ℕ) (l : List ℕ) → get_elem? (mine ∷ met) k ≡ some l → (p : ℕ) → 0 < times p l → p < length seen) (conn : ℕ)
     (before : List Entry) (coming : Entry) (front : IsPrefix seen before) (sees : seen' ≡ before ++ coming ∷ [])
@@ -347,6 +347,7 @@ module _ (may : ℕ → Type 0) (halts : Type 0) (own : Option ℕ) (config : Co
             subst (λ (e : Entry). Enters may halts own e) same (
               (made.3, λ halted. absurd (none-some conn (sym (ap actor_of halted) ∙ made.2)), named_noted conn made.0.act made.2),
               λ slot linked dialed. absurd (none-some conn (sym (ap actor_of dialed) ∙ made.2)),
+              λ job note loaded. absurd (none-some conn (sym (ap actor_of loaded) ∙ made.2)),
             )
       ]
 
@@ -592,13 +593,19 @@ turn_opens_none config log moment done n turn opened =
     let e : ◌≡◌ {A = Option ℕ} None (Some n) =
     sym (ap (λ (b : Bool). opened_where config b log) (turn.closed (state_after config log))) ∙ opened in none-some n e
 
-turn_enters : (may : ℕ → Type 0) (halts : Type 0) (own : Option ℕ) (moment : ℕ) (done : Act) → may moment → IsTurn done →
-    Enters may halts own (entry_at moment done)
-turn_enters may halts own moment done told turn =
-    ((told, λ halted. absurd (turn.running halted), turn.noted), λ slot linked dialed. absurd (turn.undialed slot linked dialed))
+-- a turn loads nothing
+turn_unloaded : (own : Option Actor) (who : Actor) (done : Act) → IsTurnOf who done → (job : ℕ) (note : LoadNote) → done ≡ Loaded job note →
+    own ≡ Some Jobs
+turn_unloaded own (Slot slot) done is job note loaded = absurd (cc (is, loaded))
+turn_unloaded own Jobs done is job note loaded = let done_is = is.1 in absurd (cc (done_is, loaded))
+
+turn_enters : (may : ℕ → Type 0) (halts : Type 0) (own : Option Actor) (moment : ℕ) (done : Act) → may moment → IsTurn done →
+    ((job : ℕ) (note : LoadNote) → done ≡ Loaded job note → own ≡ Some Jobs) → Enters may halts own (entry_at moment done)
+turn_enters may halts own moment done told turn loads =
+    ((told, λ halted. absurd (turn.running halted), turn.noted), λ slot linked dialed. absurd (turn.undialed slot linked dialed), loads)
 
 -- a lane that worked keeps what it kept
-module _ {L : Type 0} (input : L → Input) (output : L → Output) (may : ℕ → Type 0) (halts : Type 0) (own : Option ℕ) (config : Configuration)
+module _ {L : Type 0} (input : L → Input) (output : L → Output) (may : ℕ → Type 0) (halts : Type 0) (own : Option Actor) (config : Configuration)
     (start : Option Configuration) (seen seen' : List Entry) (mine mine' : List ℕ) (met met' : List (List ℕ))
     (conns : List (Conn L)) (is : start ≡ Some config) (met_is : met' ≡ met)
     (below : (k : ℕ) (l : List ℕ) → get_elem? (mine ∷ met) k ≡ some l → (p : ℕ) → 0 < times p l → p < length seen)
@@ -610,20 +617,21 @@ module _ {L : Type 0} (input : L → Input) (output : L → Output) (may : ℕ �
       owned stays.run keeps
 
   keeps_gained : (IsIt : Act → Type 0) (now place : ℕ) (gained : Gained config seen mine seen' mine' IsIt now place) → may now →
-      IsTurn gained.act → Keeps input output (Enters may halts own) config seen' (mine' ∷ met') conns
-  keeps_gained IsIt now place gained told turn =
+      IsTurn gained.act → ((job : ℕ) (note : LoadNote) → gained.act ≡ Loaded job note → own ≡ Some Jobs) →
+      Keeps input output (Enters may halts own) config seen' (mine' ∷ met') conns
+  keeps_gained IsIt now place gained told turn loads =
       let entry = entry_at now gained.act in
       subst (λ (ms : List (List ℕ)). Keeps input output (Enters may halts own) config seen' (mine' ∷ ms) conns) (sym met_is)
       (keeps_entered input output (Enters may halts own) config start seen gained.before seen' mine mine' met conns place entry is
       gained.front gained.sees gained.at gained.more turn.unnamed
-      (λ n. turn_opens_none config gained.before now gained.act n turn) (turn_enters may halts own now gained.act told turn)
+      (λ n. turn_opens_none config gained.before now gained.act n turn) (turn_enters may halts own now gained.act told turn loads)
       (run_behind config gained.before seen' entry gained.reply gained.sees gained.answers) below
       (subst (λ (ms : List (List ℕ)). Owned opens names start (mine' ∷ ms) seen') met_is owned) keeps)
 
   pub keeps_worked : (who : Actor) (now : ℕ) (worked : Worked) → may now → Works config seen mine seen' mine' who now worked →
       Keeps input output (Enters may halts own) config seen' (mine' ∷ met') conns
   keeps_worked who now (Did place wakes) told gained =
-      keeps_gained (IsTurnOf who) now place gained told (turn_is who gained.act gained.is)
+      keeps_gained (IsTurnOf who) now place gained told (turn_is who gained.act gained.is) (turn_unloaded own who gained.act gained.is)
   keeps_worked who now (Idle None) told works = keeps_stays works.stays
   keeps_worked who now (Idle (Some next)) told works = keeps_stays works.stays
   keeps_worked who now (Talk target) told works = keeps_stays works.stands.stays
@@ -631,16 +639,16 @@ module _ {L : Type 0} (input : L → Input) (output : L → Output) (may : ℕ �
   keeps_worked who now Stopped told works = keeps_stays works.stays
   keeps_worked who now (Refused why) told works = keeps_stays works.stays
 
-  -- so does one that noted a load
-  pub keeps_loaded : (job now : ℕ) (old new : Store) (worked : Worked) → may now →
+  -- so does the one that noted a load
+  pub keeps_loaded : own ≡ Some Jobs → (job now : ℕ) (old new : Store) (worked : Worked) → may now →
       LoadsOnce config seen mine seen' mine' job old new now worked →
       Keeps input output (Enters may halts own) config seen' (mine' ∷ met') conns
-  keeps_loaded job now old new (Did place wakes) told noted =
+  keeps_loaded jobs job now old new (Did place wakes) told noted =
       keeps_gained (λ done. done ≡ Loaded job noted.note) now place noted.entered told
-      (load_is job noted.note noted.entered.act noted.entered.is noted.loaded.built)
-  keeps_loaded job now old new (Idle None) told loads = keeps_stays loads.0.stays
-  keeps_loaded job now old new (Idle (Some next)) told loads = absurd loads
-  keeps_loaded job now old new (Talk target) told loads = absurd loads
-  keeps_loaded job now old new (Load other) told loads = absurd loads
-  keeps_loaded job now old new Stopped told loads = absurd loads
-  keeps_loaded job now old new (Refused why) told loads = keeps_stays loads.0.stays
+      (load_is job noted.note noted.entered.act noted.entered.is noted.loaded.built) (λ _ _ _. jobs)
+  keeps_loaded jobs job now old new (Idle None) told loads = keeps_stays loads.0.stays
+  keeps_loaded jobs job now old new (Idle (Some next)) told loads = absurd loads
+  keeps_loaded jobs job now old new (Talk target) told loads = absurd loads
+  keeps_loaded jobs job now old new (Load other) told loads = absurd loads
+  keeps_loaded jobs job now old new Stopped told loads = absurd loads
+  keeps_loaded jobs job now old new (Refused why) told loads = keeps_stays loads.0.stays

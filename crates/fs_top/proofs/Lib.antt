@@ -8,6 +8,7 @@ mod LaneLemmas
 mod PartLaws
 mod PlaceLemmas
 mod PlacedLemmas
+mod ReloadLemmas
 mod RunLaws
 mod SendLemmas
 mod ServeLaws

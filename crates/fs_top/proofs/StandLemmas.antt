@@ -17,13 +17,15 @@ use Rattle.fs_top.specs.declared.desk.Desk.{Desk}
 use Rattle.fs_top.specs.declared.lanes.Staff.{Staff}
 use Rattle.fs_top.specs.declared.slots.SlotLane.{SlotLane}
 use Rattle.fs_top.specs.Dials.{HasRisen}
+use Rattle.fs_session.specs.declared.actor.Actor.{Actor}
+use Rattle.fs_session.specs.declared.actor.Actor.TheVariants as who
 use Rattle.fs_top.specs.Lanes.{Enters}
 use Rattle.fs_top.specs.Standing.{DeskStands, StaffStands, SlotHolds, DialsFailed, vain_of}
 use Rattle.fs_top.proofs.LaneLemmas.{keeps_may}
 
-entry_told : (may may' : ℕ → Type 0) (own : Option ℕ) → ((moment : ℕ) → may moment → may' moment) → (entry : Entry) →
+entry_told : (may may' : ℕ → Type 0) (own : Option Actor) → ((moment : ℕ) → may moment → may' moment) → (entry : Entry) →
     Enters may ⊥ own entry → Enters may' ⊥ own entry
-entry_told may may' own more entry entered = ((more entry.moment entered.0.0, entered.0.1, entered.0.2), entered.1)
+entry_told may may' own more entry entered = ((more entry.moment entered.0.0, entered.0.1, entered.0.2), entered.1, entered.2)
 
 pub staff_told : {L : Type 0} (input : L → Input) (output : L → Output) (may may' : ℕ → Type 0)
     (book : Book View Configuration Offer Entry Answer RouteRefusal) (staff : Staff L) → ((moment : ℕ) → may moment → may' moment)
@@ -43,8 +45,8 @@ desk_told input output may may' book desk more stands = record {
   book_is = stands.book_is;
   parts_is = stands.parts_is;
   keeps =
-      keeps_may input output (Enters may ⊥ None) (Enters may' ⊥ None) (configured (opening_state book)) (seen desk.pass)
-      (mine desk.pass ∷ met desk.pass) [] (entry_told may may' None more) stands.keeps;
+      keeps_may input output (Enters may ⊥ (Some who.Jobs)) (Enters may' ⊥ (Some who.Jobs)) (configured (opening_state book)) (seen desk.pass)
+      (mine desk.pass ∷ met desk.pass) [] (entry_told may may' (Some who.Jobs) more) stands.keeps;
 }
 
 pub slot_told : {L O : Type 0} (input : L → Input) (output : L → Output) (may may' : ℕ → Type 0)
@@ -55,8 +57,8 @@ slot_told input output may may' book slot count lane more holds = (
   holds.0,
   holds.1,
   holds.2,
-  keeps_may input output (Enters may ⊥ (Some slot)) (Enters may' ⊥ (Some slot)) (configured (opening_state book)) (seen lane.pass)
-      (mine lane.pass ∷ met lane.pass) lane.conns.items (entry_told may may' (Some slot) more) holds.3,
+  keeps_may input output (Enters may ⊥ (Some (who.Slot slot))) (Enters may' ⊥ (Some (who.Slot slot))) (configured (opening_state book))
+      (seen lane.pass) (mine lane.pass ∷ met lane.pass) lane.conns.items (entry_told may may' (Some (who.Slot slot)) more) holds.3,
 )
 
 -- what failed for a lane has failed for it where it goes on without a dial

@@ -23,6 +23,7 @@ use Rattle.fs_session.specs.Talking.{Counts, Opens, OpensNone, MayCount}
 use Rattle.fs_session.specs.Working.{Stays}
 use Rattle.fs_top.specs.declared.conns.Conn.{Conn}
 use Rattle.fs_top.specs.Dials.{tells_in_vain, is_in_vain, found_by, vain_in, HasRisen}
+use Rattle.fs_session.specs.declared.actor.Actor.TheVariants as who
 use Rattle.fs_top.specs.Lanes.{IsNotedWell, Enters, Keeps}
 use Rattle.fs_top.proofs.GatherLemmas.{keeps_split}
 use Rattle.fs_top.proofs.LaneLemmas.{keeps_served, gained_fails, keeps_entered, keeps_looked, run_behind}
@@ -69,12 +70,13 @@ named_quiet slot conn Halt named = refl
 
 -- who told of a dial of its own slot may have
 dialed_enters : (may : ℕ → Type 0) (slot now : ℕ) (linked : Bool) (done : Act) → may now → done ≡ Dialed slot linked →
-    Enters may ⊥ (Some slot) (record { moment = now; act = done })
+    Enters may ⊥ (Some (who.Slot slot)) (record { moment = now; act = done })
 dialed_enters may slot now linked done told is = (
   (told, λ halted. absurd (cc (is, halted)), subst IsNotedWell (sym is) tt),
   λ other link same.
       let e : Dialed slot linked ≡ Dialed other link = sym is ∙ same in
-      let here : slot ≡ other = cc e in ap Some here,
+      let here : slot ≡ other = cc e in ap (λ (n : ℕ). Some (who.Slot n)) here,
+  λ job note loaded. absurd (cc (is, loaded)),
 )
 
 -- a pass that was split off, and told of a dial
@@ -84,16 +86,16 @@ module _ {L : Type 0} (input : L → Input) (output : L → Output) (may : ℕ �
     (below : (k : ℕ) (l : List ℕ) → get_elem? (mine ∷ met) k ≡ some l → (p : ℕ) → 0 < times p l → p < length seen) (now : ℕ)
     (told : may now) where
   abbrev Kept : List Entry → List ℕ → List (List ℕ) → List (Conn L) → Type 0
-  Kept log places lists conns = Keeps input output (Enters may ⊥ (Some slot)) config log (places ∷ lists) conns
+  Kept log places lists conns = Keeps input output (Enters may ⊥ (Some (who.Slot slot))) config log (places ∷ lists) conns
 
   pub kept_new : Kept seen mine met []
   kept_new =
-      keeps_split input output (Enters may ⊥ (Some slot)) config seen seen mine met [] refl no_place none_met refl run
+      keeps_split input output (Enters may ⊥ (Some (who.Slot slot))) config seen seen mine met [] refl no_place none_met refl run
 
   -- nothing was entered
   pub kept_stays : Owned opens names start (mine' ∷ met') seen' → Stays config seen mine seen' mine' → Kept seen' mine' met' []
   kept_stays owned stays =
-      keeps_looked input output (Enters may ⊥ (Some slot)) config start seen seen' mine mine' met met' [] is stays.front stays.same met_is
+      keeps_looked input output (Enters may ⊥ (Some (who.Slot slot))) config start seen seen' mine mine' met met' [] is stays.front stays.same met_is
       below owned stays.run kept_new
 
   pub vain_nothing : Stays config seen mine seen' mine' → (old new : ℕ) → MayCount old new →
@@ -109,7 +111,7 @@ module _ {L : Type 0} (input : L → Input) (output : L → Output) (may : ℕ �
       let gained = none.tells.gained in
       let entry : Entry = record { moment = now; act = gained.act } in
       subst (λ (ms : List (List ℕ)). Kept seen' mine' ms []) (sym met_is)
-      (keeps_entered input output (Enters may ⊥ (Some slot)) config start seen gained.before seen' mine mine' met [] place entry is
+      (keeps_entered input output (Enters may ⊥ (Some (who.Slot slot))) config start seen gained.before seen' mine mine' met [] place entry is
       gained.front gained.sees gained.at gained.more
       (ap (λ (done : Act). names (record { moment = now; act = done })) gained.is)
       (λ n opened. none-some n (sym none.none ∙ opened))
@@ -159,7 +161,7 @@ module _ {L : Type 0} (input : L → Input) (output : L → Output) (may : ℕ �
           Kept seen'' mine'' met'' (conn_is ∷ [])
       kept_served conn_is in0 out0 number is_new owns tells =
           subst (λ (ms : List (List ℕ)). Kept seen'' mine'' ms (conn_is ∷ [])) (sym all_met)
-          (keeps_served may ⊥ (Some slot) config start is seen seen' seen'' mine mine' mine'' met below conn opened.tells.gained.before entry
+          (keeps_served may ⊥ (Some (who.Slot slot)) config start is seen seen' seen'' mine mine' mine'' met below conn opened.tells.gained.before entry
           opened.tells.gained.front opened.tells.gained.sees at_end opened.opened unnamed
           (dialed_enters may slot now opened.tells.linked opened.tells.gained.act told opened.tells.gained.is) later gains owned_mine
           input output [] conn_is in0 out0 (input conn_is.link) (output conn_is.link) (sym number) refl refl kept_new is_new tells.run owns
@@ -186,7 +188,7 @@ module _ {L : Type 0} (input : L → Input) (output : L → Output) (may : ℕ �
               slice_get seen'' p ≡ Some e → is_in_vain slot e ≡ false
           fails zero l there p e has at =
               let its : mine'' ≡ l = cc there in
-              gained_fails may ⊥ (Some slot) config start is seen seen' seen'' mine mine' mine'' met below conn opened.tells.gained.before entry
+              gained_fails may ⊥ (Some (who.Slot slot)) config start is seen seen' seen'' mine mine' mine'' met below conn opened.tells.gained.before entry
               opened.tells.gained.front opened.tells.gained.sees at_end opened.opened unnamed
               (dialed_enters may slot now opened.tells.linked opened.tells.gained.act told opened.tells.gained.is) later gains owned_mine
               (is_in_vain slot) quiet (λ other named. named_quiet slot conn other.act named) p e

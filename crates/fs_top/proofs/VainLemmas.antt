@@ -26,7 +26,7 @@ use Rattle.fs_top.proofs.PlaceLemmas.{count_append, count_push, count_up, count_
 
 -- ---- what may have failed
 
-risen_or : (times old new : ℕ) → (new < 18446744073709551615 → old + times ≤ new) → HasRisen times old new
+pub risen_or : (times old new : ℕ) → (new < 18446744073709551615 → old + times ≤ new) → HasRisen times old new
 risen_or times old new rises =
     dite (dec_lt new 18446744073709551615) (λ below. inl (rises below)) (λ whole. inr (omega (arith, whole)))
 
@@ -105,10 +105,10 @@ other_slot p q linked differs = by (p == q) (grind (arith, nat_tests))
     by false is = refl
     by true is = absurd (cc is)
 
-act_quiet : (slot : ℕ) (own : Option ℕ) (done : Act) → ((other : ℕ) (linked : Bool) → done ≡ Dialed other linked → own ≡ Some other) →
-    own ≢ Some slot → tells_in_vain slot done ≡ false
+act_quiet : (slot : ℕ) (own : Option Actor) (done : Act) →
+    ((other : ℕ) (linked : Bool) → done ≡ Dialed other linked → own ≡ Some (Slot other)) → own ≢ Some (Slot slot) → tells_in_vain slot done ≡ false
 act_quiet slot own (Dialed other linked) its differs =
-    other_slot other slot linked (λ same. differs (its other linked refl ∙ ap Some same))
+    other_slot other slot linked (λ same. differs (its other linked refl ∙ ap (λ (n : ℕ). Some (Slot n)) same))
 act_quiet slot own Arrive its differs = refl
 act_quiet slot own (Command conn block) its differs = refl
 act_quiet slot own (Take conn) its differs = refl
@@ -118,8 +118,8 @@ act_quiet slot own (Job number) its differs = refl
 act_quiet slot own (Loaded number note) its differs = refl
 act_quiet slot own Halt its differs = refl
 
-pub vain_none : (may : ℕ → Type 0) (halts : Type 0) (own : Option ℕ) (config : Configuration) (seen : List Entry) (lists : List (List ℕ))
-    (slot : ℕ) → AreAllowed config seen lists (Enters may halts own) → own ≢ Some slot → vain_in slot seen lists ≡ 0
+pub vain_none : (may : ℕ → Type 0) (halts : Type 0) (own : Option Actor) (config : Configuration) (seen : List Entry) (lists : List (List ℕ))
+    (slot : ℕ) → AreAllowed config seen lists (Enters may halts own) → own ≢ Some (Slot slot) → vain_in slot seen lists ≡ 0
 vain_none may halts own config seen lists slot allowed differs =
     count_none (is_in_vain slot) seen lists
     (λ k places there p entry has at. act_quiet slot own entry.act (allowed k places there p entry has at).1 differs)

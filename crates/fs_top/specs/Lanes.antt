@@ -1,5 +1,5 @@
 -- What is kept of the connections that were served, over the journal as far as it was seen.
-use Rattle.std.specs.Prelude.{◌≡◌, ℕ, ◌<◌, ◌≤◌, ◌||◌, ◌&&◌, ◌==◌, Bool, List, Option, None, Some, is_some, slice_get, map}
+use Rattle.std.specs.Prelude.{◌≡◌, ℕ, ◌<◌, ◌≤◌, ◌||◌, ◌&&◌, ◌==◌, Bool, List, Option, Some, is_some, slice_get, map}
 use Rattle.std.specs.List.{All, Contains}
 use mathlib.Core.Option.{some}
 use lib.ListN.{get_elem?}
@@ -11,6 +11,7 @@ use Rattle.fs_state.specs.Switch.{Switch, is_full}
 use Rattle.fs_machine.specs.declared.entry.Entry.{Entry}
 use Rattle.fs_machine.specs.declared.entry.Act.{Act}
 use Rattle.fs_machine.specs.declared.entry.Act.TheVariants.{Arrive, Command, Take, Close, Dialed, Work, Job, Loaded, Halt}
+use Rattle.fs_machine.specs.declared.note.LoadNote.{LoadNote}
 use Rattle.fs_machine.specs.Loading.{IsBuiltAsNoted}
 use Rattle.fs_machine.specs.Laws.{state_after}
 use Rattle.fs_machine.specs.Questions.{live}
@@ -72,10 +73,12 @@ IsNotedWell Halt = Unit {0}
 abbrev pub MayEnter : (ℕ → Type 0) → Type 0 → Entry → Type 0
 MayEnter may halts entry = may entry.moment × (entry.act ≡ Halt → halts) × IsNotedWell entry.act
 
--- The entry may be entered where the pass belongs to whoever works a slot, or to somebody else, who enters nothing of any dial: only of that
--- slot it tells what came of one.
-abbrev pub Enters : (ℕ → Type 0) → Type 0 → Option ℕ → Entry → Type 0
-Enters may halts own entry = MayEnter may halts entry × ((slot : ℕ) (linked : Bool) → entry.act ≡ Dialed slot linked → own ≡ Some slot)
+-- The entry may be entered where the pass belongs to this actor, or to somebody else: what came of a dial for a slot is told by whoever works
+-- that slot alone, and a load is noted by whoever works the jobs alone.
+abbrev pub Enters : (ℕ → Type 0) → Type 0 → Option Actor → Entry → Type 0
+Enters may halts own entry =
+    MayEnter may halts entry × ((slot : ℕ) (linked : Bool) → entry.act ≡ Dialed slot linked → own ≡ Some (Slot slot))
+    × ((job : ℕ) (note : LoadNote) → entry.act ≡ Loaded job note → own ≡ Some Jobs)
 
 abbrev pub number_of : {L : Type 0} → Conn L → ℕ
 number_of conn = conn.number
@@ -89,11 +92,6 @@ pub record Keeps {L : Type 0} (input : L → Input) (output : L → Output) (may
   pub all : AreAll config seen lists (map number_of conns)
   pub once : AreOnce config seen lists (map number_of conns)
   pub allowed : AreAllowed config seen lists may
-
--- the slot of which an actor may tell what came of a dial
-abbrev pub slot_of : Actor → Option ℕ
-slot_of (Slot slot) = Some slot
-slot_of Jobs = None
 
 -- the switch has come to its end, or its journal is full
 abbrev pub is_over : Switch → Bool

@@ -6,6 +6,7 @@ pub mod Runs
 pub mod Reading
 pub mod Lanes
 pub mod Standing
+pub mod Reloading
 pub mod Doors
 pub mod Shutdowns
 pub mod Headline

@@ -17,10 +17,11 @@ use Rattle.fs_top.specs.declared.lanes.Lane.{Lane}
 use Rattle.fs_top.specs.declared.lanes.Lane.TheVariants.{Slot, Staff}
 use Rattle.fs_top.specs.declared.lanes.Staff.{Staff as StaffLane}
 use Rattle.fs_top.specs.declared.slots.SlotLane.{SlotLane}
+use Rattle.fs_session.specs.declared.actor.Actor.TheVariants as who
 use Rattle.fs_top.specs.Dials.{vain_in, HasRisen}
 use Rattle.fs_top.specs.Lanes.{Keeps, Enters}
 
--- its pass is of the book and has two parts, it keeps its connections, and it never halts the switch, nor tells what came of a dial
+-- its pass is of the book and has two parts, it keeps its connections, and it never halts the switch, tells what came of a dial or notes a load
 pub record StaffStands {L : Type 0} (input : L → Input) (output : L → Output) (may : ℕ → Type 0)
     (book : Book View Configuration Offer Entry Answer RouteRefusal) (staff : StaffLane L) : Type 0 where
   pub book_is : IsPassOf configured book staff.pass
@@ -28,21 +29,22 @@ pub record StaffStands {L : Type 0} (input : L → Input) (output : L → Output
   pub keeps : Keeps input output (Enters may ⊥ None) (configured (opening_state book)) (seen staff.pass) (mine staff.pass ∷ met staff.pass)
       staff.conns.items
 
--- the desk: its pass is of the book and has two parts, it serves nobody, never halts the switch, nor tells what came of a dial
+-- the desk: its pass is of the book and has two parts, it serves nobody, never halts the switch, nor tells what came of a dial, and notes loads
 pub record DeskStands {L : Type 0} (input : L → Input) (output : L → Output) (may : ℕ → Type 0)
     (book : Book View Configuration Offer Entry Answer RouteRefusal) (desk : Desk) : Type 0 where
   pub book_is : IsPassOf configured book desk.pass
   pub parts_is : parts desk.pass ≡ 2
-  pub keeps : Keeps input output (Enters may ⊥ None) (configured (opening_state book)) (seen desk.pass) (mine desk.pass ∷ met desk.pass) []
+  pub keeps : Keeps input output (Enters may ⊥ (Some who.Jobs)) (configured (opening_state book)) (seen desk.pass)
+      (mine desk.pass ∷ met desk.pass) []
 
 module _ {L O : Type 0} where
-  -- The lane is that of a slot, its pass is of the book and has so many parts, it keeps its connections, never halts the switch, and tells
-  -- what came of a dial of its slot alone.
+  -- The lane is that of a slot, its pass is of the book and has so many parts, it keeps its connections, never halts the switch, notes no load,
+  -- and tells what came of a dial of its slot alone.
   abbrev pub SlotHolds : (L → Input) → (L → Output) → (ℕ → Type 0) → Book View Configuration Offer Entry Answer RouteRefusal → ℕ → ℕ
       → SlotLane L O → Type 0
   SlotHolds input output may book slot count lane =
       (lane.slot ≡ slot) × IsPassOf configured book lane.pass × (parts lane.pass ≡ count)
-      × Keeps input output (Enters may ⊥ (Some slot)) (configured (opening_state book)) (seen lane.pass) (mine lane.pass ∷ met lane.pass)
+      × Keeps input output (Enters may ⊥ (Some (who.Slot slot))) (configured (opening_state book)) (seen lane.pass) (mine lane.pass ∷ met lane.pass)
       lane.conns.items
 
   -- it stands so where nobody else has parts of its pass

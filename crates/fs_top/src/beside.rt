@@ -5,7 +5,9 @@ ghost use Rattle.std.specs.List.{All};
 ghost use Rattle.fs_book.specs.Passes.{seen, mine, met, parts, opening_state, IsPassOf};
 ghost use Rattle.fs_machine.specs.Turned.{configured};
 ghost use Rattle.fs_top.specs.Doors.{Rose};
+ghost use Rattle.fs_session.specs.Loading.{Store};
 ghost use Rattle.fs_top.specs.Lanes.{Keeps, Enters};
+ghost use Rattle.fs_top.specs.Reloading.{store, HasNoted};
 ghost use Rattle.fs_top.specs.Standing.{DeskStands, Stands, ArePlaced, HaveFailed};
 
 use crate::accepting::accept_beside;
@@ -56,6 +58,9 @@ pub(crate) fn run_beside<
         (Enters (C.tells clock.now) (Rose (D.door_faults door.old) (D.door_faults door.new)) None)
         (configured (opening_state book.now)) (seen pass.new) (mine pass.new ∷ met pass.new) [] }
     ensures desk { DeskStands D.Link.input D.Link.output (C.tells clock.now) book.now desk.new }
+    ensures loads { (first : Store)
+        → HasNoted first (store (F.loads files.old name.now) (F.counts files.old) (F.sizes files.old)) desk.old
+        → HasNoted first (store (F.loads files.new name.now) (F.counts files.new) (F.sizes files.new)) desk.new }
     ensures count { length lanes.new ≡ length lanes.old }
     ensures lanes { All (Stands D.Link.input D.Link.output (C.tells clock.now) book.now) lanes.new }
     ensures placed { (slots : ℕ) → ArePlaced slots lanes.old → ArePlaced slots lanes.new }
@@ -106,6 +111,9 @@ fn run_round<
         (Enters (C.tells clock.now) (Rose (D.door_faults door.old) (D.door_faults door.new)) None)
         (configured (opening_state book.now)) (seen pass.new) (mine pass.new ∷ met pass.new) [] }
     ensures desk { DeskStands D.Link.input D.Link.output (C.tells clock.now) book.now desk.new }
+    ensures loads { (first : Store)
+        → HasNoted first (store (F.loads files.old name.now) (F.counts files.old) (F.sizes files.old)) desk.old
+        → HasNoted first (store (F.loads files.new name.now) (F.counts files.new) (F.sizes files.new)) desk.new }
     ensures count { length lanes.new ≡ length lanes.old }
     ensures lanes { All (Stands D.Link.input D.Link.output (C.tells clock.now) book.now) lanes.new }
     ensures placed { (slots : ℕ) → ArePlaced slots lanes.old → ArePlaced slots lanes.new }
@@ -135,7 +143,10 @@ fn run_round<
                 None)
                 (configured (opening_state book.entry.now)) (seen pass.exit.now)
                 (mine pass.exit.now ∷ met pass.exit.now) []
-                × (result ≡ false → (pass.exit.now ≡ pass.entry.now) × (door.exit.now ≡ door.entry.now)) }
+                × (result ≡ false → (pass.exit.now ≡ pass.entry.now) × (door.exit.now ≡ door.entry.now))
+                × ((first : Store)
+                → HasNoted first (store (F.loads files.entry.now name.entry.now) (F.counts files.entry.now) (F.sizes files.entry.now)) desk.entry.now
+                → HasNoted first (store (F.loads files.exit.now name.entry.now) (F.counts files.exit.now) (F.sizes files.exit.now)) desk.exit.now) }
         { attend(rt, book, came, clock, muster, files, name, door, pass, desk) },
     );
     began
@@ -159,6 +170,9 @@ fn attend<R: Threads + Wait + Sync, F: Files + Send, D: Door + Send, C: Clock>(
     requires keeps { Keeps D.Link.input D.Link.output (Enters (C.tells clock.now) ⊥ None)
         (configured (opening_state book.now)) (seen pass.old) (mine pass.old ∷ met pass.old) [] }
     ensures desk { DeskStands D.Link.input D.Link.output (C.tells clock.now) book.now desk.new }
+    ensures loads { (first : Store)
+        → HasNoted first (store (F.loads files.old name.now) (F.counts files.old) (F.sizes files.old)) desk.old
+        → HasNoted first (store (F.loads files.new name.now) (F.counts files.new) (F.sizes files.new)) desk.new }
     ensures book { IsPassOf configured book.now pass.new }
     ensures parts { parts pass.new ≡ parts pass.old }
     ensures keeps { Keeps D.Link.input D.Link.output
@@ -170,7 +184,10 @@ fn attend<R: Threads + Wait + Sync, F: Files + Send, D: Door + Send, C: Clock>(
         rt,
         &mut || -> ()
             requires { DeskStands D.Link.input D.Link.output (C.tells clock.now) book.now desk.now }
-            ensures { DeskStands D.Link.input D.Link.output (C.tells clock.entry.now) book.entry.now desk.exit.now }
+            ensures { DeskStands D.Link.input D.Link.output (C.tells clock.entry.now) book.entry.now desk.exit.now
+                × ((first : Store)
+                → HasNoted first (store (F.loads files.entry.now name.entry.now) (F.counts files.entry.now) (F.sizes files.entry.now)) desk.entry.now
+                → HasNoted first (store (F.loads files.exit.now name.entry.now) (F.counts files.exit.now) (F.sizes files.exit.now)) desk.exit.now) }
         { work_beside::<R, F, D::Link, C>(rt, book, clock, muster, files, name, desk) },
         &mut || -> bool
             requires { IsPassOf configured book.now pass.now

@@ -1,10 +1,10 @@
 //! The desk works the jobs, and notes the loads for which some of them wait.
 
-ghost use Rattle.std.specs.Prelude.{◌≡◌, ◌∷◌, None};
-ghost use Rattle.fs_book.specs.Passes.{seen, mine, met, parts, opening_state, IsPassOf};
-ghost use Rattle.fs_machine.specs.Turned.{configured};
-ghost use Rattle.fs_top.specs.Lanes.{Keeps, Enters};
+ghost use Rattle.std.specs.Prelude.{◌≡◌, ◌∷◌};
+ghost use Rattle.fs_book.specs.Passes.{seen, mine, met};
+ghost use Rattle.fs_session.specs.Loading.{Store};
 ghost use Rattle.fs_top.specs.Standing.{DeskStands};
+ghost use Rattle.fs_top.specs.Reloading.{store, noted_at, HasNoted};
 
 use crate::conns::Conn;
 use crate::muster::Muster;
@@ -38,7 +38,10 @@ pub(crate) fn work_beside<R: Wait, F: Files, L: Link, C: Clock>(
     desk: &mut Desk,
 )
     requires { DeskStands L.input L.output (C.tells clock.now) book.now desk.old }
-    ensures { DeskStands L.input L.output (C.tells clock.now) book.now desk.new }
+    ensures stands { DeskStands L.input L.output (C.tells clock.now) book.now desk.new }
+    ensures loads { (first : Store)
+        → HasNoted first (store (F.loads files.old name.now) (F.counts files.old) (F.sizes files.old)) desk.old
+        → HasNoted first (store (F.loads files.new name.now) (F.counts files.new) (F.sizes files.new)) desk.new }
 {
     if !muster.begin(rt) {
         return;
@@ -57,7 +60,10 @@ fn work_jobs<R: Wait, F: Files, L: Link, C: Clock>(
     desk: &mut Desk,
 )
     requires stands { DeskStands L.input L.output (C.tells clock.now) book.now desk.old }
-    ensures { DeskStands L.input L.output (C.tells clock.now) book.now desk.new }
+    ensures stands { DeskStands L.input L.output (C.tells clock.now) book.now desk.new }
+    ensures loads { (first : Store)
+        → HasNoted first (store (F.loads files.old name.now) (F.counts files.old) (F.sizes files.old)) desk.old
+        → HasNoted first (store (F.loads files.new name.now) (F.counts files.new) (F.sizes files.new)) desk.new }
 {
     'loads: for _ in rt.forever() {
         match turn_jobs::<R, L, C>(rt, book, clock, desk) {
@@ -76,7 +82,10 @@ fn turn_jobs<R: Wait, L: Link, C: Clock>(
     desk: &mut Desk,
 ) -> Pause
     requires { DeskStands L.input L.output (C.tells clock.now) book.now desk.old }
-    ensures { DeskStands L.input L.output (C.tells clock.now) book.now desk.new }
+    ensures stands { DeskStands L.input L.output (C.tells clock.now) book.now desk.new }
+    ensures met { met desk.new.pass ≡ met desk.old.pass }
+    ensures noted { noted_at (seen desk.new.pass) (mine desk.new.pass)
+        ≡ noted_at (seen desk.old.pass) (mine desk.old.pass) }
 {
     let nobody: Vec<Conn<L>> = Vec::new(desk.alloc);
     let pass = &mut desk.pass;
@@ -103,7 +112,10 @@ fn load<R: Wait, F: Files, L: Link, C: Clock>(
     desk: &mut Desk,
 )
     requires stands { DeskStands L.input L.output (C.tells clock.now) book.now desk.old }
-    ensures { DeskStands L.input L.output (C.tells clock.now) book.now desk.new }
+    ensures stands { DeskStands L.input L.output (C.tells clock.now) book.now desk.new }
+    ensures loads { (first : Store)
+        → HasNoted first (store (F.loads files.old name.now) (F.counts files.old) (F.sizes files.old)) desk.old
+        → HasNoted first (store (F.loads files.new name.now) (F.counts files.new) (F.sizes files.new)) desk.new }
 {
     let now = clock.now();
     let worked = load_once(rt, desk.alloc, book, &mut desk.pass, job, files, name, now);

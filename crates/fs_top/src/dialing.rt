@@ -1,14 +1,15 @@
 //! A lane works the channels in its slot, and serves the controllers that are dialed for them.
 
-ghost use Rattle.std.specs.Prelude.{◌≡◌, ℕ, [], ◌∷◌};
+ghost use Rattle.std.specs.Prelude.{◌≡◌, ℕ, [], ◌∷◌, Some};
 ghost use Rattle.fs_ports.specs.Ports.{IsNewLink};
 ghost use Rattle.fs_book.specs.Opened.{NoneNames};
 ghost use Rattle.fs_book.specs.Passes.{seen, mine, met, parts, opening_state, IsPassOf};
 ghost use Rattle.fs_conn.specs.Owning.{OwnsConn};
 ghost use Rattle.fs_conn.specs.Talks.{point, Talks};
 ghost use Rattle.fs_machine.specs.Turned.{configured, IsJournal, names};
+ghost use Rattle.fs_session.specs.declared.actor.Actor.TheVariants as who;
 ghost use Rattle.fs_top.specs.Dials.{vain_in, HasRisen};
-ghost use Rattle.fs_top.specs.Lanes.{Keeps, Enters, slot_of};
+ghost use Rattle.fs_top.specs.Lanes.{Keeps, Enters};
 ghost use Rattle.fs_top.specs.Standing.{SlotHolds, SlotStands, DialsFailed, vain_of, conns_of};
 
 use crate::conns::Conn;
@@ -138,7 +139,7 @@ fn dial<R: Threads + Wait + Sync, L: Link, O: Dialer<Link = L>, C: Clock, G: Gat
     ensures room { lane.new.conns ≡ lane.old.conns }
     ensures book { IsPassOf configured book.now theirs.new }
     ensures parts { parts theirs.new ≡ parts theirs.old }
-    ensures keeps { Keeps L.input L.output (Enters (C.tells clock.now) ⊥ (Some lane.old.slot))
+    ensures keeps { Keeps L.input L.output (Enters (C.tells clock.now) ⊥ (Some (who.Slot lane.old.slot)))
         (configured (opening_state book.now)) (seen theirs.new) (mine theirs.new ∷ met theirs.new) (conns_of result) }
     ensures failed { HasRisen (vain_in lane.old.slot (seen theirs.new) (mine theirs.new ∷ met theirs.new))
         (O.dial_faults lane.old.dialer) (O.dial_faults lane.new.dialer) }
@@ -255,11 +256,11 @@ fn converse_beside<R: Threads + Wait + Sync, L: Link, O: Drop, C: Clock, G: Gate
         { serve_conn(rt, alloc, book, theirs, conn, link, talks) },
         &mut || -> ()
             requires { IsPassOf configured book.now pass.now
-                × Keeps L.input L.output (Enters (C.tells clock.now) ⊥ (slot_of actor))
+                × Keeps L.input L.output (Enters (C.tells clock.now) ⊥ (Some actor))
                 (configured (opening_state book.now)) (seen pass.now) (mine pass.now ∷ met pass.now) conns.now.items }
             ensures { IsPassOf configured book.entry.now pass.exit.now
                 × (parts pass.exit.now ≡ parts pass.entry.now)
-                × Keeps L.input L.output (Enters (C.tells clock.entry.now) ⊥ (slot_of actor))
+                × Keeps L.input L.output (Enters (C.tells clock.entry.now) ⊥ (Some actor))
                 (configured (opening_state book.entry.now)) (seen pass.exit.now)
                 (mine pass.exit.now ∷ met pass.exit.now) conns.entry.now.items
                 × ((slot : ℕ) → vain_in slot (seen pass.exit.now) (mine pass.exit.now ∷ met pass.exit.now)

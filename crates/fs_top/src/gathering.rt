@@ -4,6 +4,9 @@ ghost use Rattle.std.specs.Prelude.{◌≡◌, ◌+◌, ◌*◌, ◌^◌, ◌≤
 ghost use Rattle.std.specs.List.{All};
 ghost use Rattle.fs_book.specs.Passes.{seen, mine, met, parts, opening_state, IsPassOf};
 ghost use Rattle.fs_machine.specs.Turned.{configured, IsJournal};
+ghost use Rattle.fs_conn.specs.Play.{noted};
+ghost use Rattle.fs_session.specs.Loading.{Store};
+ghost use Rattle.fs_top.specs.Reloading.{NotesLoads, HasNoted, NoneNotes, Notes};
 ghost use Rattle.fs_top.specs.Doors.{Rose};
 ghost use Rattle.fs_top.specs.Headline.{Headline};
 ghost use Rattle.fs_top.specs.Dials.{vain_dials, vain_in, AreBounded};
@@ -165,6 +168,7 @@ pub(crate) fn make_desk<L: Link, C: Clock>(
     ensures same { (seen pass.new ≡ seen pass.old) × (mine pass.new ≡ mine pass.old) × (met pass.new ≡ met pass.old) }
     ensures parts { OnOk result (parts pass.new + 2 ≡ parts pass.old) }
     ensures desk { IfOk result (DeskStands L.input L.output (C.tells clock.now) book.now) }
+    ensures fresh { IfOk result (λ desk. (mine desk.pass ≡ []) × (met desk.pass ≡ [])) }
 {
     if pass.parts() <= PARTS {
         return Err(Memory);
@@ -205,6 +209,8 @@ pub(crate) fn gather<L: Link, O: Dialer<Link = L>, C: Clock>(
         → AreBounded (λ slot. vain_in slot (seen pass.old) (mine pass.old ∷ met pass.old)) from []
         → AreBounded (λ slot. vain_in slot (seen pass.new) (mine pass.new ∷ met pass.new)) from
         (map O.dial_faults gathered.dialers.items)) }
+    ensures quiet { OnOk result (NoneNotes (seen pass.old) (mine pass.old ∷ met pass.old)
+        → NoneNotes (seen pass.new) (mine pass.new ∷ met pass.new)) }
 {
     let _slots = slots;
     let mut conns = Vec::new(alloc);
@@ -240,6 +246,8 @@ fn gather_lane<L: Link, O: Dialer<Link = L>, C: Clock>(
         (map O.dial_faults dialers.old.items)
         → AreBounded (λ slot. vain_in slot (seen pass.new) (mine pass.new ∷ met pass.new)) from
         (map O.dial_faults dialers.new.items)) }
+    ensures quiet { OnOk result (NoneNotes (seen pass.old) (mine pass.old ∷ met pass.old)
+        → NoneNotes (seen pass.new) (mine pass.new ∷ met pass.new)) }
 {
     match lane {
         Lane::Slot(lane) => gather_slot(book, pass, clock, conns, dialers, lane),
@@ -271,6 +279,8 @@ fn gather_slot<L: Link, O: Dialer<Link = L>, C: Clock>(
         (map O.dial_faults dialers.old.items)
         → AreBounded (λ slot. vain_in slot (seen pass.new) (mine pass.new ∷ met pass.new)) from
         (map O.dial_faults dialers.new.items)) }
+    ensures quiet { OnOk result (NoneNotes (seen pass.old) (mine pass.old ∷ met pass.old)
+        → NoneNotes (seen pass.new) (mine pass.new ∷ met pass.new)) }
 {
     let SlotLane {
         pass: other,
@@ -304,6 +314,8 @@ fn gather_staff<L: Link, C: Clock>(
     ensures bounded { OnOk result ((from : ℕ) (counts : List ℕ)
         → AreBounded (λ slot. vain_in slot (seen pass.old) (mine pass.old ∷ met pass.old)) from counts
         → AreBounded (λ slot. vain_in slot (seen pass.new) (mine pass.new ∷ met pass.new)) from counts) }
+    ensures quiet { OnOk result (NoneNotes (seen pass.old) (mine pass.old ∷ met pass.old)
+        → NoneNotes (seen pass.new) (mine pass.new ∷ met pass.new)) }
 {
     let Staff {
         pass: other,
@@ -335,6 +347,8 @@ pub(crate) fn meet_desk<L: Link, C: Clock>(
     ensures bounded { (from : ℕ) (counts : List ℕ)
         → AreBounded (λ slot. vain_in slot (seen pass.old) (mine pass.old ∷ met pass.old)) from counts
         → AreBounded (λ slot. vain_in slot (seen pass.new) (mine pass.new ∷ met pass.new)) from counts }
+    ensures loads { (first last : Store) → NoneNotes (seen pass.old) (mine pass.old ∷ met pass.old)
+        → HasNoted first last desk → Notes (seen pass.new) (mine pass.new ∷ met pass.new) first last }
 {
     let Desk { pass: other, .. } = desk;
     book.meet(pass, other);
@@ -359,6 +373,8 @@ pub(crate) fn close<L: Link, C: Clock>(
     ensures bounded { (from : ℕ) (counts : List ℕ)
         → AreBounded (λ slot. vain_in slot (seen pass) (mine pass ∷ met pass)) from counts
         → AreBounded (λ slot. vain_dials slot (seen pass)) from counts }
+    ensures loads { (first last : Store) → Notes (seen pass) (mine pass ∷ met pass) first last
+        → NotesLoads first last (noted result.journal) }
 {
     book.close(pass)
 }

@@ -17,6 +17,8 @@ ghost use Rattle.fs_machine.specs.Turned.{configured, IsJournal};
 ghost use Rattle.fs_top.specs.Headline as headline;
 ghost use Rattle.fs_top.specs.Headline.{Headline, IsShutDown, status_behind};
 ghost use Rattle.fs_top.specs.Lanes.{Keeps, MayEnter, is_settled};
+ghost use Rattle.fs_conn.specs.Play.{noted};
+ghost use Rattle.fs_top.specs.Reloading.{store, behind_first, NotesLoads, AreCounted, Notes};
 ghost use Rattle.fs_top.specs.Serving as spec;
 
 use crate::beside::run_beside;
@@ -151,6 +153,18 @@ pub fn serve<
     ensures dialers { AreBounded (λ slot. vain_dials slot result.journal.entries) (O.dial_faults dialer.now)
         (map O.dial_faults result.dialers.items) }
 
+    // Unless nothing is handed back, what the journal notes of loads came, in its order, of loads of the file that were made one
+    // after another behind the first one, each of one of its own. At most as many note that it could not be read or was
+    // absent, or that a pattern was too large, as were counted.
+    ensures loads { (result.journal.entries ≡ []) ⊎ NotesLoads
+        (behind_first (store (F.loads files.old (spec.file_served words.now)) (F.counts files.old) (F.sizes files.old)))
+        (store (F.loads files.new (spec.file_served words.now)) (F.counts files.new) (F.sizes files.new))
+        (noted result.journal.entries) }
+    ensures counted { (result.journal.entries ≡ []) ⊎ AreCounted
+        (behind_first (store (F.loads files.old (spec.file_served words.now)) (F.counts files.old) (F.sizes files.old)))
+        (store (F.loads files.new (spec.file_served words.now)) (F.counts files.new) (F.sizes files.new))
+        (noted result.journal.entries) }
+
     // Each status has its cause.
     ensures shutdown { result.status.code ≡ 0 → (c : Configuration)
         × spec.IsReadAs (next (F.loads files.old)) (spec.file_served words.now) c
@@ -224,6 +238,18 @@ pub fn serve_with<
     // than the one from which all were made, unless it counts as many as it can.
     ensures dialers { AreBounded (λ slot. vain_dials slot result.journal.entries) (O.dial_faults dialer.now)
         (map O.dial_faults result.dialers.items) }
+
+    // Unless nothing is handed back, what the journal notes of loads came, in its order, of loads of the file that were made one
+    // after another behind the first one, each of one of its own. At most as many note that it could not be read or was
+    // absent, or that a pattern was too large, as were counted.
+    ensures loads { (result.journal.entries ≡ []) ⊎ NotesLoads
+        (behind_first (store (F.loads files.old (spec.file_served words.now)) (F.counts files.old) (F.sizes files.old)))
+        (store (F.loads files.new (spec.file_served words.now)) (F.counts files.new) (F.sizes files.new))
+        (noted result.journal.entries) }
+    ensures counted { (result.journal.entries ≡ []) ⊎ AreCounted
+        (behind_first (store (F.loads files.old (spec.file_served words.now)) (F.counts files.old) (F.sizes files.old)))
+        (store (F.loads files.new (spec.file_served words.now)) (F.counts files.new) (F.sizes files.new))
+        (noted result.journal.entries) }
 
     // Each status has its cause.
     ensures shutdown { result.status.code ≡ 0 → (c : Configuration)
@@ -302,6 +328,10 @@ fn serve_file<
         result.dialers.items }
     ensures dialers { AreBounded (λ slot. vain_dials slot result.journal.entries) (O.dial_faults dialer.now)
         (map O.dial_faults result.dialers.items) }
+    ensures loads { (result.journal.entries ≡ []) ⊎ NotesLoads
+        (behind_first (store (F.loads files.old name.now) (F.counts files.old) (F.sizes files.old)))
+        (store (F.loads files.new name.now) (F.counts files.new) (F.sizes files.new))
+        (noted result.journal.entries) }
 {
     let bytes = match files.load(name) {
         Ok(Load::Got(bytes)) => bytes,
@@ -347,6 +377,10 @@ fn serve_bytes<
         result.course result.journal.entries result.conns.items result.dialers.items }
     ensures dialers { AreBounded (λ slot. vain_dials slot result.journal.entries) (O.dial_faults dialer.now)
         (map O.dial_faults result.dialers.items) }
+    ensures loads { (result.journal.entries ≡ []) ⊎ NotesLoads
+        (store (F.loads files.old name.now) (F.counts files.old) (F.sizes files.old))
+        (store (F.loads files.new name.now) (F.counts files.new) (F.sizes files.new))
+        (noted result.journal.entries) }
 {
     match read_config(alloc, bytes) {
         Ok(config) => match Dialplan::build(alloc, &config, files) {
@@ -386,6 +420,10 @@ fn serve_config<
         result.dialers.items }
     ensures dialers { AreBounded (λ slot. vain_dials slot result.journal.entries) (O.dial_faults dialer.now)
         (map O.dial_faults result.dialers.items) }
+    ensures loads { (result.journal.entries ≡ []) ⊎ NotesLoads
+        (store (F.loads files.old name.now) (F.counts files.old) (F.sizes files.old))
+        (store (F.loads files.new name.now) (F.counts files.new) (F.sizes files.new))
+        (noted result.journal.entries) }
 {
     let settings = config.settings();
     let slots = settings.max_sessions;
@@ -430,6 +468,10 @@ fn serve_machine<
         result.dialers.items }
     ensures dialers { AreBounded (λ slot. vain_dials slot result.journal.entries) (O.dial_faults dialer.now)
         (map O.dial_faults result.dialers.items) }
+    ensures loads { (result.journal.entries ≡ []) ⊎ NotesLoads
+        (store (F.loads files.old name.now) (F.counts files.old) (F.sizes files.old))
+        (store (F.loads files.new name.now) (F.counts files.new) (F.sizes files.new))
+        (noted result.journal.entries) }
 {
     machine.sound();
     let Ok((book, pass)) = Book::start(alloc, machine) else {
@@ -473,6 +515,9 @@ fn serve_book<
         r.0.config r.0.journal r.1.conns.items) }
     ensures dialers { IfOk result (λ r. AreBounded (λ slot. vain_dials slot r.0.journal) (O.dial_faults dialer.now)
         (map O.dial_faults r.1.dialers.items)) }
+    ensures loads { IfOk result (λ r. NotesLoads
+        (store (F.loads files.old name.now) (F.counts files.old) (F.sizes files.old))
+        (store (F.loads files.new name.now) (F.counts files.new) (F.sizes files.new)) (noted r.0.journal)) }
 {
     let mut pass = pass;
     let gathered = serve_to_end(
@@ -518,6 +563,9 @@ fn serve_to_end<
         (map O.dial_faults gathered.dialers.items)) }
     ensures settled { OnOk result
         (is_settled (state_after (configured (opening_state book.now)) (seen pass.new)) ≡ true) }
+    ensures loads { OnOk result (Notes (seen pass.new) (mine pass.new ∷ met pass.new)
+        (store (F.loads files.old name.now) (F.counts files.old) (F.sizes files.old))
+        (store (F.loads files.new name.now) (F.counts files.new) (F.sizes files.new))) }
 {
     let came = Arc::new(alloc, Came::new(alloc))?;
     let mut lanes = make_slots(alloc, book, pass, clock, dialer, slots)?;

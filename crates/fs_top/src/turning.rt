@@ -1,10 +1,11 @@
 //! A lane works a slot, or the jobs.
 
-ghost use Rattle.std.specs.Prelude.{◌≡◌, ℕ, ◌∷◌};
+ghost use Rattle.std.specs.Prelude.{◌≡◌, ℕ, ◌∷◌, Some};
 ghost use Rattle.fs_book.specs.Passes.{seen, mine, met, parts, opening_state, IsPassOf};
 ghost use Rattle.fs_machine.specs.Turned.{configured};
 ghost use Rattle.fs_top.specs.Dials.{vain_in};
-ghost use Rattle.fs_top.specs.Lanes.{Keeps, Enters, slot_of};
+ghost use Rattle.fs_top.specs.Lanes.{Keeps, Enters};
+ghost use Rattle.fs_top.specs.Reloading.{noted_at};
 
 use crate::conns::Conn;
 use crate::rest::rest;
@@ -39,14 +40,16 @@ pub(crate) fn run_turns<R: Wait, C: Clock, G: Gates, L: Link>(
     conns: &Vec<Conn<L>>,
 ) -> Pause
     requires book { IsPassOf configured book.now pass.old }
-    requires keeps { Keeps L.input L.output (Enters (C.tells clock.now) ⊥ (slot_of actor))
+    requires keeps { Keeps L.input L.output (Enters (C.tells clock.now) ⊥ (Some actor))
         (configured (opening_state book.now)) (seen pass.old) (mine pass.old ∷ met pass.old) conns.now.items }
     ensures book { IsPassOf configured book.now pass.new }
     ensures parts { parts pass.new ≡ parts pass.old }
-    ensures keeps { Keeps L.input L.output (Enters (C.tells clock.now) ⊥ (slot_of actor))
+    ensures keeps { Keeps L.input L.output (Enters (C.tells clock.now) ⊥ (Some actor))
         (configured (opening_state book.now)) (seen pass.new) (mine pass.new ∷ met pass.new) conns.now.items }
     ensures vain { (slot : ℕ) → vain_in slot (seen pass.new) (mine pass.new ∷ met pass.new)
         ≡ vain_in slot (seen pass.old) (mine pass.old ∷ met pass.old) }
+    ensures met { met pass.new ≡ met pass.old }
+    ensures noted { noted_at (seen pass.new) (mine pass.new) ≡ noted_at (seen pass.old) (mine pass.old) }
 {
     let mut gate = gates.gate(gated_slot(actor));
     'turns: for _ in rt.forever() {

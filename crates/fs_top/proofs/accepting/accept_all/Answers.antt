@@ -18,7 +18,7 @@ links-init g c =
       keeps =
           keeps_may g.D.Link.Port.input g.D.Link.Port.output (Enters tells ⊥ None) (Enters tells (Rose first first) None)
           (configured (opening_state c.args.book.now)) (seen pass) (mine pass ∷ met pass) []
-          (λ entry allowed. ((allowed.0.0, λ halts. absurd (allowed.0.1 halts), allowed.0.2), allowed.1)) c.requires.keeps;
+          (λ entry allowed. ((allowed.0.0, λ halts. absurd (allowed.0.1 halts), allowed.0.2), allowed.1, allowed.2)) c.requires.keeps;
     }
 
 pub returns-then-is_ending-clause-keeps : goal.returns-then-is_ending-clause-keeps

@@ -13,4 +13,4 @@ returns-then-not-begin_last-clause-keeps g c =
     let pass = c.args.pass.now in
     keeps_may g.D.Link.Port.input g.D.Link.Port.output (Enters tells ⊥ None) (Enters tells (Rose first first) None)
     (configured (opening_state c.args.book.now)) (seen pass) (mine pass ∷ met pass) []
-    (λ entry allowed. ((allowed.0.0, λ halts. absurd (allowed.0.1 halts), allowed.0.2), allowed.1)) c.requires.keeps
+    (λ entry allowed. ((allowed.0.0, λ halts. absurd (allowed.0.1 halts), allowed.0.2), allowed.1, allowed.2)) c.requires.keeps

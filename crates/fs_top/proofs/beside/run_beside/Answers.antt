@@ -27,6 +27,7 @@ rounds-preserved g c =
           (configured (opening_state c.args.book.now)) (seen pass) (mine pass ∷ met pass) [])
           (sym nothing.0) kept.keeps;
       desk = ran.desk;
+      loads = λ first before. ran.loads first (kept.loads first before);
       count = ran.count ∙ kept.count;
       stand = ran.lanes;
       placed = λ slots before. ran.placed slots (kept.placed slots before);
@@ -41,4 +42,7 @@ returns-clause-keeps g c =
     let pass = c.rounds.pass in
     keeps_may g.D.Link.Port.input g.D.Link.Port.output (Enters tells ⊥ None) (Enters tells (Rose first last) None)
     (configured (opening_state c.args.book.now)) (seen pass) (mine pass ∷ met pass) []
-    (λ entry allowed. ((allowed.0.0, λ halts. absurd (allowed.0.1 halts), allowed.0.2), allowed.1)) c.rounds.invariant.keeps
+    (λ entry allowed. ((allowed.0.0, λ halts. absurd (allowed.0.1 halts), allowed.0.2), allowed.1, allowed.2)) c.rounds.invariant.keeps
+
+pub returns-then-run_round-clause-loads : goal.returns-then-run_round-clause-loads
+returns-then-run_round-clause-loads g c = λ first before. c.run_round.ensures.loads first (c.rounds.invariant.loads first before)

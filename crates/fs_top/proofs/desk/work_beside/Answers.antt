@@ -7,7 +7,7 @@ work_jobs-requires-clause-stands g c =
     desk_told g.L.Port.input g.L.Port.output (g.C.Clock.tells c.args.clock.now) (g.C.Clock.tells c.of_sleeper-clock.result) c.args.book.now _
     (λ moment told. (c.of_sleeper-clock.ensures moment).1 told) c.requires
 
-pub returns : goal.returns
-returns g c =
+pub returns-clause-stands : goal.returns-clause-stands
+returns-clause-stands g c =
     desk_told g.L.Port.input g.L.Port.output (g.C.Clock.tells c.of_sleeper-clock.result) (g.C.Clock.tells c.args.clock.now) c.args.book.now _
-    (λ moment told. (c.of_sleeper-clock.ensures moment).0 told) c.work_jobs.ensures
+    (λ moment told. (c.of_sleeper-clock.ensures moment).0 told) c.work_jobs.ensures.stands

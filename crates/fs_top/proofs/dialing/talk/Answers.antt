@@ -2,6 +2,7 @@ use Rattle.std.proofs.Common.{◌≡◌, ℕ, ◌+◌, ◌∷◌, ◌++◌, Some
 use Rattle.fs_book.specs.Passes.{seen, mine, met, opening_state}
 use Rattle.fs_machine.specs.Turned.{configured}
 use Rattle.fs_top.specs.Dials.{vain_in, HasRisen}
+use Rattle.fs_session.specs.declared.actor.Actor.TheVariants as who
 use Rattle.fs_top.specs.Lanes.{Enters}
 use Rattle.fs_top.specs.Standing.{conns_of}
 use Rattle.fs_top.proofs.GatherLemmas.{keeps_joined}
@@ -13,7 +14,7 @@ returns-in-Some-clause-stands g c =
     let lane = c.dial-conn.new.lane in
     let theirs = c.dial-conn.new.theirs in
     let new = c.meet.new.pass in
-    let its = Enters (g.C.Clock.tells c.args.clock.now) ⊥ (Some c.args.lane.now.slot) in
+    let its = Enters (g.C.Clock.tells c.args.clock.now) ⊥ (Some (who.Slot c.args.lane.now.slot)) in
     let all : c.keep.new.conns.items ≡ lane.conns.items ++ conns_of c.dial-conn.result =
     c.keep.ensures ∙ ap (λ r. lane.conns.items ++ conns_of r) (sym c.in-Some.is) in (
       c.dial-conn.ensures.holds.0,
@@ -31,7 +32,7 @@ returns-in_default-clause-stands g c =
     let lane = c.dial-conn.new.lane in
     let theirs = c.dial-conn.new.theirs in
     let new = c.meet.new.pass in
-    let its = Enters (g.C.Clock.tells c.args.clock.now) ⊥ (Some c.args.lane.now.slot) in
+    let its = Enters (g.C.Clock.tells c.args.clock.now) ⊥ (Some (who.Slot c.args.lane.now.slot)) in
     let all : lane.conns.items ≡ lane.conns.items ++ conns_of c.dial-conn.result =
     sym (append-nil lane.conns.items) ∙ ap (λ r. lane.conns.items ++ conns_of r) (sym c.in_default.is) in (
       c.dial-conn.ensures.holds.0,

@@ -40,6 +40,7 @@ lanes-init g c = record {
   bounded = λ from failed before.
       subst (λ ds. AreBounded (λ slot. vain_in slot (seen c.args.pass.now) (mine c.args.pass.now ∷ met c.args.pass.now)) from
       (map g.O.Dialer.dial_faults ds)) (sym c.new-dialers.ensures.items) before;
+  quiet = λ before. before;
 }
 
 pub lanes-preserved : goal.lanes-preserved
@@ -63,4 +64,5 @@ lanes-preserved g c =
           c.in_ok-gather_lane.ensures.bounded from
           (subst (HasFailed g.O.Dialer.dial_faults from) (sym turn.1) (failed (length c.lanes.yielded) c.in-Some.lane turn.0))
           (c.lanes.invariant.bounded from failed before);
+      quiet = λ before. c.in_ok-gather_lane.ensures.quiet (c.lanes.invariant.quiet before);
     }

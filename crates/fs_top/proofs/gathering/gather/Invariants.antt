@@ -4,6 +4,7 @@ use Rattle.fs_machine.specs.Turned.{configured}
 use Rattle.fs_top.specs.Dials.{vain_in, AreBounded}
 use Rattle.fs_top.specs.Doors.{Rose}
 use Rattle.fs_top.specs.Lanes.{Keeps, MayEnter}
+use Rattle.fs_top.specs.Reloading.{NoneNotes}
 use Rattle.fs_top.specs.Standing.{HaveFailed}
 use Rattle.fs_top.proofs.gathering.gather.Given as goal
 
@@ -22,4 +23,5 @@ invariant-lanes g l = record {
   bounded : (from : ℕ) → HaveFailed g.O.Dialer.dial_faults from l.fn.lanes.items
       → AreBounded (λ slot. vain_in slot (seen l.fn.pass) (mine l.fn.pass ∷ met l.fn.pass)) from []
       → AreBounded (λ slot. vain_in slot (seen l.pass) (mine l.pass ∷ met l.pass)) from (map g.O.Dialer.dial_faults l.dialers.items);
+  quiet : NoneNotes (seen l.fn.pass) (mine l.fn.pass ∷ met l.fn.pass) → NoneNotes (seen l.pass) (mine l.pass ∷ met l.pass);
 }

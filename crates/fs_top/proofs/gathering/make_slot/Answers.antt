@@ -2,6 +2,7 @@ use Rattle.std.proofs.Common.{◌≡◌, ◌∷◌, [], Some, refl, inl, sym, su
 use Rattle.fs_book.specs.Passes.{seen, mine, met, opening_state}
 use Rattle.fs_machine.specs.Turned.{configured}
 use Rattle.fs_top.specs.Dials.{vain_in, HasRisen}
+use Rattle.fs_session.specs.declared.actor.Actor.TheVariants as who
 use Rattle.fs_top.specs.Lanes.{Enters}
 use Rattle.fs_top.proofs.GatherLemmas.{keeps_split}
 use Rattle.fs_top.proofs.VainLemmas.{risen_none}
@@ -14,7 +15,7 @@ returns-clause-lane g c =
       refl,
       split.book.1,
       split.new.3,
-      keeps_split g.L.Port.input g.L.Port.output (Enters (g.C.Clock.tells c.args.clock.now) ⊥ (Some c.args.slot))
+      keeps_split g.L.Port.input g.L.Port.output (Enters (g.C.Clock.tells c.args.clock.now) ⊥ (Some (who.Slot c.args.slot)))
           (configured (opening_state c.args.book.now)) (seen c.args.pass.now) (seen new) (mine new) (met new) c.new.result.items split.new.0
           split.new.1 split.new.2 c.new.ensures.items c.requires.run,
     )

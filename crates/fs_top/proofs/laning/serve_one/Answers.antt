@@ -30,7 +30,8 @@ returns-clause-keeps g c =
     (keeps_served (g.C.Clock.tells c.args.clock.now) ⊥ None _ new.seat.me.0.start c.serve_conn-end.ensures.book.1 (seen old) _ (seen new)
     (mine old) _ (mine new) (met old) old.sound.places c.in_ok-number.number welcomed.before (entry_at welcomed.moment Arrive) welcomed.front
     welcomed.sees welcomed.more welcomed.opened refl
-    ((welcomed.told, λ halted. absurd (cc halted), tt), λ slot linked dialed. absurd (cc dialed)) talks.later talks.gains
+    ((welcomed.told, λ halted. absurd (cc halted), tt), λ slot linked dialed. absurd (cc dialed), λ job note loaded. absurd (cc loaded)) talks.later
+    talks.gains
     (subst (λ (ms : List (List ℕ)). Owned opens names new.seat.me.0.start (mine new ∷ ms) (seen new)) met_is new.sound.owned)
     g.L.Port.input g.L.Port.output _ _ _ _ _ _ refl refl refl c.requires.keeps c.requires.new talks.told.run c.serve_conn-end.ensures.owns
     talks.told))

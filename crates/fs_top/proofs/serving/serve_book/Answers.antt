@@ -15,3 +15,6 @@ returns-clause-dialers g c =
     let counts = map g.O.Dialer.dial_faults c.in_ok-gathered.gathered.dialers.items in
     subst (λ (log : List Entry). AreBounded (λ slot. vain_dials slot log) from counts) (sym c.close-machine.ensures.journal)
     (c.close-machine.ensures.bounded from counts c.in_ok-gathered.ensures.bounded)
+
+pub returns-clause-loads : goal.returns-clause-loads
+returns-clause-loads g c = c.close-machine.ensures.loads _ _ c.in_ok-gathered.ensures.loads

@@ -1,4 +1,4 @@
-use Rattle.std.proofs.Common.{ap, ◌∙◌}
+use Rattle.std.proofs.Common.{ap, ◌∙◌, inl}
 use Rattle.fs_top.specs.Serving.{configured}
 use Rattle.fs_top.specs.declared.course.Course.TheVariants.{Run}
 use Rattle.fs_top.proofs.ServeLaws.{is_nothing, serves_faulty, serves_unbuilt}
@@ -17,3 +17,14 @@ pub returns-clause-serves : goal.returns-clause-serves
 returns-clause-serves g c =
     serves_faulty _ _ _ _ _ _ _ _ _ _ _ _ _ c.in-Err.ensures (c.nothing-in-Err.ensures.course ∙ ap Run c.not_read.ensures)
     (is_nothing _ _ _ c.nothing-in-Err.ensures.journal c.nothing-in-Err.ensures.conns c.nothing-in-Err.ensures.dialers)
+
+pub returns-in-Ok-build-clause-loads : goal.returns-in-Ok-build-clause-loads
+returns-in-Ok-build-clause-loads g c =
+    let built = c.in-Ok-build.ensures in
+    rw (built.files.0, built.files.1, built.sizes) at c.serve_config.ensures.loads
+
+pub returns-in-Ok-clause-loads : goal.returns-in-Ok-clause-loads
+returns-in-Ok-clause-loads g c = inl c.nothing.ensures.journal
+
+pub returns-clause-loads : goal.returns-clause-loads
+returns-clause-loads g c = inl c.nothing-in-Err.ensures.journal

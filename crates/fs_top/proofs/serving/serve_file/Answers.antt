@@ -1,6 +1,7 @@
 use Rattle.std.proofs.Common.{ap, refl, inl, inr}
 use Rattle.fs_ports.specs.declared.files.Load.TheVariants.{Absent, Failed}
 use Rattle.fs_top.specs.Serving.{no_file, read, line_of_course, status_of_course}
+use Rattle.fs_top.proofs.ReloadLemmas.{reloads_from}
 use Rattle.fs_top.proofs.ServeLaws.{is_nothing, serves_unread}
 use Rattle.fs_top.proofs.serving.serve_file.Goals as goal
 
@@ -27,3 +28,21 @@ pub returns-in-Err-clause-serves : goal.returns-in-Err-clause-serves
 returns-in-Err-clause-serves g c =
     no_file c.without_memory.ensures.course
     (is_nothing _ _ _ c.without_memory.ensures.journal c.without_memory.ensures.conns c.without_memory.ensures.dialers)
+
+pub returns-clause-loads : goal.returns-clause-loads
+returns-clause-loads g c =
+    let loaded = rw c.in-Ok-Got.field-0-is at c.in-Ok-Got.ensures in
+    elim c.serve_bytes.ensures.loads [
+      | inl none ↦ inl none
+      | inr reloads ↦
+          inr (reloads_from _ _ _ _ (record { loads = loaded.rest; counts = loaded.counts.1; sizes = c.load.ensures.sizes }) reloads)
+    ]
+
+pub returns-in-Ok-Absent-clause-loads : goal.returns-in-Ok-Absent-clause-loads
+returns-in-Ok-Absent-clause-loads g c = inl c.nothing.ensures.journal
+
+pub returns-in-Ok-Failed-clause-loads : goal.returns-in-Ok-Failed-clause-loads
+returns-in-Ok-Failed-clause-loads g c = inl c.nothing-in-Ok-Failed.ensures.journal
+
+pub returns-in-Err-clause-loads : goal.returns-in-Err-clause-loads
+returns-in-Err-clause-loads g c = inl c.without_memory.ensures.journal

@@ -4,7 +4,10 @@ use Rattle.fs_book.specs.Passes.{seen, mine, met, parts, opening_state}
 use Rattle.fs_machine.specs.Turned.{configured}
 use Rattle.fs_top.specs.Dials.{vain_in}
 use Rattle.fs_top.specs.Doors.{Rose}
+use Rattle.fs_session.specs.declared.actor.Actor.TheVariants as who
 use Rattle.fs_top.specs.Lanes.{MayEnter, Enters}
+use Rattle.fs_top.specs.Reloading.{store}
+use Rattle.fs_top.proofs.ReloadLemmas.{none_notes, notes_up, reloads_first}
 use Rattle.fs_top.proofs.LaneLemmas.{keeps_may}
 use Rattle.fs_top.proofs.PlacedLemmas.{lent_back, placed_as, counted_as, failed_all}
 use Rattle.fs_top.proofs.ServeLaws.{keeps_none}
@@ -75,7 +78,7 @@ returns-clause-bounded g c =
     let config = configured (opening_state c.args.book.now) in
     let none =
     bounded_none (λ slot. vain_in slot (seen ran) (mine ran ∷ met ran)) from
-    (λ slot. vain_none tells rose None config (seen ran) (mine ran ∷ met ran) slot c.run_beside-began.ensures.keeps.allowed (λ is. none-some slot is)) in
+    (λ slot. vain_none tells rose None config (seen ran) (mine ran ∷ met ran) slot c.run_beside-began.ensures.keeps.allowed (λ is. none-some (who.Slot slot) is)) in
     let faults = g.O.Dialer.dial_faults in
     let added = c.in_ok-add_staff.ensures.failed from c.in_ok-lanes.ensures.failed in
     let failed = c.run_beside-began.ensures.failed from (failed_all faults from c.add_staff.new.lanes.items _ (sym c.as_mut_slice.ensures.value) added) in
@@ -88,3 +91,25 @@ returns-clause-bounded g c =
     (c.in_ok-gathered.ensures.bounded from (failed_all faults from c.run_beside-began.new.lanes _
     (lent_back c.add_staff.new.lanes.items c.as_mut_slice.result.now c.run_beside-began.new.lanes c.add_staff.new.lanes.len
     c.as_mut_slice.ensures.value c.as_mut_slice.ensures.len c.run_beside-began.ensures.count) failed) none))
+
+pub returns-clause-loads : goal.returns-clause-loads
+returns-clause-loads g c =
+    let tells = g.C.Clock.tells c.args.clock.now in
+    let ran = c.run_beside-began.new.pass in
+    let before = c.meet_desk.new.pass in
+    let after = c.settle.new.pass in
+    let rose = Rose (g.D.Door.door_faults c.args.door.now) (g.D.Door.door_faults c.run_beside-began.new.door) in
+    let config = configured (opening_state c.args.book.now) in
+    let desk = c.in_ok-desk.desk in
+    let name = c.args.name.now in
+    let first = store (g.F.Store.loads c.args.files.now name) (g.F.Store.counts c.args.files.now) (g.F.Store.sizes c.args.files.now) in
+    let files = c.run_beside-began.new.files in
+    let last = store (g.F.Store.loads files name) (g.F.Store.counts files) (g.F.Store.sizes files) in
+    let fresh = c.in_ok-desk.ensures.fresh in
+    let quiet =
+    none_notes tells rose None config (seen ran) (mine ran ∷ met ran) c.run_beside-began.ensures.keeps.allowed (λ is. none-some who.Jobs is) in
+    notes_up (seen before) (seen after) (mine before ∷ met before) (mine after ∷ met after) first last c.settle.ensures.later
+    (cc (c.settle.ensures.kept.0, c.settle.ensures.kept.1)) before.sound.places
+    (c.meet_desk.ensures.loads first last (c.in_ok-gathered.ensures.quiet quiet)
+    (c.run_beside-began.ensures.loads first
+    (record { reloads = reloads_first first (seen desk.pass) (mine desk.pass) fresh.0; alone = fresh.1 })))

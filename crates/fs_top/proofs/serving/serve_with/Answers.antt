@@ -1,5 +1,6 @@
 use Rattle.std.proofs.Common.{sym, ◌∙◌}
 use Rattle.fs_top.proofs.CompleteLaws.{serves_well}
+use Rattle.fs_top.proofs.ReloadLemmas.{either_counted}
 use Rattle.fs_top.proofs.ServeLaws.{serves_headline, serves_shut, serves_document, serves_unread_file, serves_door, serves_full, serves_codes}
 use Rattle.fs_top.proofs.serving.serve_with.Goals as goal
 
@@ -42,3 +43,9 @@ returns-clause-complete g c = λ config servable none.
     (rw c.file_of-name.ensures at (serves_unread_file _ _ _ _ _ _ _ _ _ _ _ _ _ _ _ serves))
     (rw c.file_of-name.ensures at (serves_door _ _ _ _ _ _ _ _ _ _ _ _ _ _ _ serves)) config servable none
     (serves_codes _ _ _ _ _ _ _ _ _ _ _ _ _ _ _ serves))
+
+pub returns-clause-loads : goal.returns-clause-loads
+returns-clause-loads g c = rw c.file_of-name.ensures at c.serve_file-ran.ensures.loads
+
+pub returns-clause-counted : goal.returns-clause-counted
+returns-clause-counted g c = rw c.file_of-name.ensures at (either_counted _ _ _ c.serve_file-ran.ensures.loads)

@@ -25,8 +25,8 @@ use std::thread::{Threads, join_mut};
 // How often all threads are tried to be made.
 const ROUNDS: usize = 3;
 
-/// Runs all lanes, works the desk and takes links in beside them, until all have come to their end, and answers true. Where not all
-/// threads can be made nothing is done, and after so many rounds the answer is false.
+/// Runs all lanes, works the desk and takes links in beside them, until all have come to their end, and answers true.
+/// Where not all threads can be made nothing is done, and after so many rounds the answer is false.
 pub(crate) fn run_beside<
     R: Threads + Wait + Sync,
     F: Files + Send,
@@ -145,8 +145,10 @@ fn run_round<
                 (mine pass.exit.now ∷ met pass.exit.now) []
                 × (result ≡ false → (pass.exit.now ≡ pass.entry.now) × (door.exit.now ≡ door.entry.now))
                 × ((first : Store)
-                → HasNoted first (store (F.loads files.entry.now name.entry.now) (F.counts files.entry.now) (F.sizes files.entry.now)) desk.entry.now
-                → HasNoted first (store (F.loads files.exit.now name.entry.now) (F.counts files.exit.now) (F.sizes files.exit.now)) desk.exit.now) }
+                → HasNoted first (store (F.loads files.entry.now name.entry.now) (F.counts files.entry.now)
+                (F.sizes files.entry.now)) desk.entry.now
+                → HasNoted first (store (F.loads files.exit.now name.entry.now) (F.counts files.exit.now)
+                (F.sizes files.exit.now)) desk.exit.now) }
         { attend(rt, book, came, clock, muster, files, name, door, pass, desk) },
     );
     began
@@ -186,8 +188,10 @@ fn attend<R: Threads + Wait + Sync, F: Files + Send, D: Door + Send, C: Clock>(
             requires { DeskStands D.Link.input D.Link.output (C.tells clock.now) book.now desk.now }
             ensures { DeskStands D.Link.input D.Link.output (C.tells clock.entry.now) book.entry.now desk.exit.now
                 × ((first : Store)
-                → HasNoted first (store (F.loads files.entry.now name.entry.now) (F.counts files.entry.now) (F.sizes files.entry.now)) desk.entry.now
-                → HasNoted first (store (F.loads files.exit.now name.entry.now) (F.counts files.exit.now) (F.sizes files.exit.now)) desk.exit.now) }
+                → HasNoted first (store (F.loads files.entry.now name.entry.now) (F.counts files.entry.now)
+                (F.sizes files.entry.now)) desk.entry.now
+                → HasNoted first (store (F.loads files.exit.now name.entry.now) (F.counts files.exit.now)
+                (F.sizes files.exit.now)) desk.exit.now) }
         { work_beside::<R, F, D::Link, C>(rt, book, clock, muster, files, name, desk) },
         &mut || -> bool
             requires { IsPassOf configured book.now pass.now

@@ -168,8 +168,10 @@ fn over_bytes<'a, F: Files, L: Link>(
 ) -> Outcome<'a>
     requires { IsTrue (L.input link.old).waits }
     ensures { OverBytes (asked_seen asked.entry) bytes.now
-        (view_in (library (F.loads files.old) (F.counts files.old) (F.sizes files.old)) (name_of (asked_seen asked.entry)))
-        (view_in (library (F.loads files.new) (F.counts files.new) (F.sizes files.new)) (name_of (asked_seen asked.entry)))
+        (view_in (library (F.loads files.old) (F.counts files.old) (F.sizes files.old))
+        (name_of (asked_seen asked.entry)))
+        (view_in (library (F.loads files.new) (F.counts files.new) (F.sizes files.new))
+        (name_of (asked_seen asked.entry)))
         (L.input link.old) (L.input link.new) (L.output link.old) (L.output link.new) result }
 {
     match read_config(alloc, bytes) {
@@ -198,8 +200,10 @@ fn over_config<'a, F: Files, L: Link>(
 ) -> Outcome<'a>
     requires { IsTrue (L.input link.old).waits }
     ensures { OverConfig (asked_seen asked.entry) config
-        (view_in (library (F.loads files.old) (F.counts files.old) (F.sizes files.old)) (name_of (asked_seen asked.entry)))
-        (view_in (library (F.loads files.new) (F.counts files.new) (F.sizes files.new)) (name_of (asked_seen asked.entry)))
+        (view_in (library (F.loads files.old) (F.counts files.old) (F.sizes files.old))
+        (name_of (asked_seen asked.entry)))
+        (view_in (library (F.loads files.new) (F.counts files.new) (F.sizes files.new))
+        (name_of (asked_seen asked.entry)))
         (L.input link.old) (L.input link.new) (L.output link.old) (L.output link.new) result }
 {
     match Dialplan::build(alloc, &config, files) {
@@ -232,8 +236,10 @@ fn over_plan<'a, F: Files, L: Link>(
     requires waits { IsTrue (L.input link.old).waits }
     requires built { plan ≡ config.contexts }
     ensures { OverPlan (asked_seen asked.entry) config
-        (view_in (library (F.loads files.old) (F.counts files.old) (F.sizes files.old)) (name_of (asked_seen asked.entry)))
-        (view_in (library (F.loads files.new) (F.counts files.new) (F.sizes files.new)) (name_of (asked_seen asked.entry)))
+        (view_in (library (F.loads files.old) (F.counts files.old) (F.sizes files.old))
+        (name_of (asked_seen asked.entry)))
+        (view_in (library (F.loads files.new) (F.counts files.new) (F.sizes files.new))
+        (name_of (asked_seen asked.entry)))
         (L.input link.old) (L.input link.new) (L.output link.old) (L.output link.new) result }
 {
     match asked {

@@ -153,9 +153,9 @@ pub fn serve<
     ensures dialers { AreBounded (λ slot. vain_dials slot result.journal.entries) (O.dial_faults dialer.now)
         (map O.dial_faults result.dialers.items) }
 
-    // Unless nothing is handed back, what the journal notes of loads came, in its order, of loads of the file that were made one
-    // after another behind the first one, each of one of its own. At most as many note that it could not be read or was
-    // absent, or that a pattern was too large, as were counted.
+    // Unless nothing is handed back, what the journal notes of loads came, in its order, of loads of the file that were
+    // made one after another behind the first one, each of one of its own. At most as many note that it could not be read
+    // or was absent, or that a pattern was too large, as were counted.
     ensures loads { (result.journal.entries ≡ []) ⊎ NotesLoads
         (behind_first (store (F.loads files.old (spec.file_served words.now)) (F.counts files.old) (F.sizes files.old)))
         (store (F.loads files.new (spec.file_served words.now)) (F.counts files.new) (F.sizes files.new))
@@ -169,8 +169,8 @@ pub fn serve<
     ensures shutdown { result.status.code ≡ 0 → (c : Configuration)
         × spec.IsReadAs (next (F.loads files.old)) (spec.file_served words.now) c
         × IsShutDown c result.journal.entries }
-    ensures document { result.status.code ≡ 3 → spec.IsNoDocument (next (F.loads files.old)) (spec.file_served words.now)
-        (F.sizes files.old) (F.sizes files.new) }
+    ensures document { result.status.code ≡ 3 → spec.IsNoDocument (next (F.loads files.old))
+        (spec.file_served words.now) (F.sizes files.old) (F.sizes files.new) }
     ensures unreadable { result.status.code ≡ 4 → spec.IsUnread (next (F.loads files.old)) (spec.file_served words.now)
         (F.counts files.old) (F.counts files.new) }
     ensures door { result.status.code ≡ 7 → (c : Configuration)
@@ -239,9 +239,9 @@ pub fn serve_with<
     ensures dialers { AreBounded (λ slot. vain_dials slot result.journal.entries) (O.dial_faults dialer.now)
         (map O.dial_faults result.dialers.items) }
 
-    // Unless nothing is handed back, what the journal notes of loads came, in its order, of loads of the file that were made one
-    // after another behind the first one, each of one of its own. At most as many note that it could not be read or was
-    // absent, or that a pattern was too large, as were counted.
+    // Unless nothing is handed back, what the journal notes of loads came, in its order, of loads of the file that were
+    // made one after another behind the first one, each of one of its own. At most as many note that it could not be read
+    // or was absent, or that a pattern was too large, as were counted.
     ensures loads { (result.journal.entries ≡ []) ⊎ NotesLoads
         (behind_first (store (F.loads files.old (spec.file_served words.now)) (F.counts files.old) (F.sizes files.old)))
         (store (F.loads files.new (spec.file_served words.now)) (F.counts files.new) (F.sizes files.new))
@@ -255,8 +255,8 @@ pub fn serve_with<
     ensures shutdown { result.status.code ≡ 0 → (c : Configuration)
         × spec.IsReadAs (next (F.loads files.old)) (spec.file_served words.now) c
         × IsShutDown c result.journal.entries }
-    ensures document { result.status.code ≡ 3 → spec.IsNoDocument (next (F.loads files.old)) (spec.file_served words.now)
-        (F.sizes files.old) (F.sizes files.new) }
+    ensures document { result.status.code ≡ 3 → spec.IsNoDocument (next (F.loads files.old))
+        (spec.file_served words.now) (F.sizes files.old) (F.sizes files.new) }
     ensures unreadable { result.status.code ≡ 4 → spec.IsUnread (next (F.loads files.old)) (spec.file_served words.now)
         (F.counts files.old) (F.counts files.new) }
     ensures door { result.status.code ≡ 7 → (c : Configuration)

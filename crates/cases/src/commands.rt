@@ -2,7 +2,7 @@
 
 use crate::applications::tell_where;
 use case_desk::Answer;
-use fs_api::Api;
+use fs_api::{Api, Side};
 use fs_orig::{Route, Winner};
 use fs_text::{Cause, Memory};
 
@@ -67,8 +67,9 @@ fn tell_command(api: &Api, answer: &mut Answer) {
         ),
         Api::UuidDump { uuid } => answer.named("UuidDump", uuid.as_bytes()),
         Api::UuidPark { uuid } => answer.named("UuidPark", uuid.as_bytes()),
-        Api::UuidTransfer { uuid, to } => {
+        Api::UuidTransfer { uuid, side, to } => {
             answer.named_two("UuidTransfer", uuid.as_bytes(), to.exten.as_bytes());
+            tell_side(*side, answer);
             tell_where(to, answer);
         }
         Api::Hupall { cause } => {
@@ -95,6 +96,15 @@ fn tell_command(api: &Api, answer: &mut Answer) {
         }
         Api::Usage(which) => answer.told(format_args!("Usage {which:?}")),
         Api::Unknown(name) => answer.named("Unknown", name.as_bytes()),
+    }
+}
+
+// Adds which legs are meant, where that is not the channel alone.
+fn tell_side(side: Side, answer: &mut Answer) {
+    match side {
+        Side::This => {}
+        Side::Both => answer.line("both"),
+        Side::Other => answer.line("other"),
     }
 }
 

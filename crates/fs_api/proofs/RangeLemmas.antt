@@ -11,8 +11,7 @@ use Rattle.fs_orig.specs.declared.winner.Winner.{Winner}
 use Rattle.fs_orig.specs.Timeouts.{IsTimeout, seconds_within}
 use Rattle.fs_chan.specs.declared.target.Target3.{Target3}
 use Rattle.fs_chan.specs.Changes.{IsShortTarget}
-use Rattle.fs_chan.specs.Targets.{target_in}
-use Rattle.fs_chan.proofs.TargetLemmas.{words_short}
+use Rattle.fs_chan.proofs.TargetLemmas.{words_short, any_words_short}
 use Rattle.fs_api.specs.declared.api.Api.{Api}
 use Rattle.fs_api.specs.declared.api.Api.TheVariants.{Expand, UuidSetvar, UuidGetvar, UuidBridge}
 use Rattle.fs_api.specs.declared.usages.Which.{Which}
@@ -24,7 +23,9 @@ use Rattle.fs_api.specs.Originates.{plain_word, originate_with, originate_to, or
 use Rattle.fs_api.specs.Readings.{names_channel, expand_of}
 use Rattle.fs_api.specs.Readings.{needs, global_setvar_of, global_getvar_of, msleep_for, uuid_exists_of, uuid_kill_of, uuid_getvar_of}
 use Rattle.fs_api.specs.Readings.{uuid_setvar_of, uuid_dump_of, uuid_bridge_of, uuid_park_of, hupall_of, fsctl_of, api_named}
-use Rattle.fs_api.specs.Transfers.{transfer_to, uuid_transfer_of}
+use Rattle.fs_api.specs.declared.side.Side.{Side}
+use Rattle.fs_api.specs.declared.side.Side.TheVariants.{This, Both, Other}
+use Rattle.fs_api.specs.Transfers.{side_of, sent_to, transfer_to, uuid_transfer_of}
 use Rattle.fs_api.specs.Ranges.{IsInRange}
 
 -- what holds of both parts of a choice holds of the choice
@@ -78,13 +79,20 @@ hanging_in_range : (arguments : Text) → IsInRange (hupall_of arguments)
 hanging_in_range [] = tt
 hanging_in_range (byte ∷ bytes) = tt
 
-transferred_in_range : (uuid : Text) (to : Option Target3) → IfSome to IsShortTarget → IsInRange (transfer_to uuid to)
-transferred_in_range uuid None short = tt
-transferred_in_range uuid (Some to) short = short
+transferred_in_range : (uuid : Text) (side : Side) (to : Option Target3) → IfSome to IsShortTarget → IsInRange (transfer_to uuid side to)
+transferred_in_range uuid side None short = tt
+transferred_in_range uuid side (Some to) short = short
+
+pub sent_short : (side : Side) (words : Text) → IfSome (sent_to side words) IsShortTarget
+sent_short This words = words_short words
+sent_short Both words = any_words_short (behind_word words)
+sent_short Other words = any_words_short (behind_word words)
 
 transferring_in_range : (arguments : Text) → IsInRange (uuid_transfer_of arguments)
 transferring_in_range arguments =
-    transferred_in_range (word_of arguments) (target_in (behind_word arguments)) (words_short (behind_word arguments))
+    let words : Text = behind_word arguments in
+    transferred_in_range (word_of arguments) (side_of (word_of words)) (sent_to (side_of (word_of words)) words)
+    (sent_short (side_of (word_of words)) words)
 
 hour_of : (n : ℕ) → nat_le n 3600000 ≡ true → n ≤ 3600000
 hour_of n within = grind (arith, nat_tests)

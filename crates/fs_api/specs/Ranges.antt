@@ -9,5 +9,5 @@ use Rattle.fs_api.specs.declared.api.Api.TheVariants.{Msleep, Originate, UuidTra
 abbrev pub IsInRange : Api → Type 0
 IsInRange (Msleep milliseconds) = milliseconds ≤ 3600000
 IsInRange (Originate url winner cid_name cid_number timeout) = IfSome timeout IsTimeout
-IsInRange (UuidTransfer uuid to) = IsShortTarget to
+IsInRange (UuidTransfer uuid side to) = IsShortTarget to
 IsInRange _ = Unit {0}

@@ -1,5 +1,6 @@
 //! The api commands.
 
+use crate::side::Side;
 use crate::usages::Which;
 use fs_chan::Target3;
 use fs_orig::Winner;
@@ -45,9 +46,11 @@ pub enum Api {
     UuidPark {
         uuid: Txt,
     },
-    /// A channel is to leave what it is in, and to be routed anew. A dialplan or context that is not given stays.
+    /// A channel, the other leg of its bridge, or both are to leave what they are in, and to be routed anew. A dialplan
+    /// or context that is not given stays that of each.
     UuidTransfer {
         uuid: Txt,
+        side: Side,
         to: Target3,
     },
     /// Two channels are to be joined.
@@ -116,6 +119,7 @@ impl Drop for Api {
             Api::UuidPark { uuid: _uuid } => {}
             Api::UuidTransfer {
                 uuid: _uuid,
+                side: _,
                 to: _to,
             } => {}
             Api::UuidBridge {

@@ -41,6 +41,6 @@ pub fn usage(which: Which) -> &'static str
         Which::UuidKill => "<uuid> [cause]",
         Which::UuidPark => "<uuid>",
         Which::UuidSetvar => "<uuid> <name> [value*]",
-        Which::UuidTransfer => "<uuid> <exten> [dialplan] [context]",
+        Which::UuidTransfer => "<uuid> [-both|-bleg] <exten> [dialplan] [context]",
     }
 }

@@ -59,11 +59,11 @@ impl Closure {
     }
 }
 
-/// What it comes to that some channels hang up of these causes.
+/// What it comes to that some channels hang up of these causes, and nobody leaves.
 ///
 /// In each round hang up those whom the channels of the round before drag along: a loopback partner for the same cause,
 /// the living legs of an origination, and the other leg of a bridge, where it does not outlive that.
-pub fn closure_of_hangup<L: Lines>(
+pub(crate) fn closure_of_named<L: Lines>(
     alloc: Global,
     world: &L,
     first: &[(u16, Cause)],
@@ -211,7 +211,7 @@ fn peer_of<L: Lines>(world: &L, member: (u16, Cause)) -> Option<(u16, Cause)>
 }
 
 /// The peer of a member, and what it does when that dies, or leaves of that cause.
-pub fn left_by<L: Lines>(world: &L, member: (u16, Cause)) -> Option<(u16, After)>
+pub(crate) fn left_by<L: Lines>(world: &L, member: (u16, Cause)) -> Option<(u16, After)>
     ensures { result ≡ spec.left_by (L.world world.now) member }
 {
     let row = world.row(member.0)?;

@@ -5,7 +5,7 @@ ghost use Rattle.fs_bridge.specs.Closure as closure;
 ghost use Rattle.fs_bridge.specs.Leaving as spec;
 
 use crate::after::After;
-use crate::closure::{Closure, add, closure_of_hangup, has_ended, left_by};
+use crate::closure::{Closure, add, closure_of_named, has_ended, left_by};
 use crate::lines::Lines;
 use crate::order::has_slot;
 use crate::parted::Parted;
@@ -66,8 +66,8 @@ impl LeavingClosure {
 ///
 /// First end the bridges of those who leave, of a normal clearing, and drag nobody. In round 0 are those who hang up
 /// first, and the other legs of these bridges where they neither leave, too, nor outlive them. From there on hang up
-/// those whom each round drags along, as `closure_of_hangup` says; one who leaves may be among them.
-pub fn closure_of_leaving<L: Lines>(
+/// those whom each round drags along; one who leaves may be among them.
+pub fn closure_of_hangup<L: Lines>(
     alloc: Global,
     world: &L,
     first: &[(u16, Cause)],
@@ -78,7 +78,7 @@ pub fn closure_of_leaving<L: Lines>(
     let others = all_left(alloc, world, left)?;
     let named = first_round(alloc, first, &others)?;
     let parted_world = Parted { world, left };
-    let mut closure = closure_of_hangup(alloc, &parted_world, &named)?;
+    let mut closure = closure_of_named(alloc, &parted_world, &named)?;
     closure.add_survivors(&others)?;
     let parted = parted_of(alloc, world, left)?;
     let leavers = leavers_of(alloc, left, closure.members())?;

@@ -14,10 +14,10 @@ mod row;
 
 pub use after::{After, after_bridge};
 pub use bridges::Bridges;
-pub use closure::{Closure, closure_of_hangup, left_by};
+pub use closure::Closure;
 pub use laws::{
     bridges_law, closure_law, endings_law, leavers_law, leaving_law, parting_law, rounds_law,
 };
-pub use leaving::{LeavingClosure, closure_of_leaving};
+pub use leaving::{LeavingClosure, closure_of_hangup};
 pub use lines::Lines;
 pub use row::{BridgeKind, Row};

@@ -30,7 +30,7 @@ pub use moment::moment_after;
 pub use peer::{Direction, Peer};
 pub use profile::SharedProfile;
 pub use shared::SharedVars;
-pub use target::{Target3, target_in};
+pub use target::{Target3, any_target_in, target_in};
 pub use turn::Turn;
 pub use wait::Wait;
 pub use work::due_law;

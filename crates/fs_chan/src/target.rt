@@ -66,6 +66,18 @@ pub fn target_in(alloc: Global, words: &[u8]) -> Result<Option<Target3>, Memory>
     ensures target { IfOk result (λ to. to ≡ spec.target_in words.now) }
     ensures short { IfOk result (λ to. IfSome to IsShortTarget) }
 {
+    if is_option(words) {
+        return Ok(None);
+    }
+    any_target_in(alloc, words)
+}
+
+/// The same where the extension may begin with `-`, too, as behind an option of FreeSWITCH's `uuid_transfer`.
+#[tactic(auto, using(crate::proofs::TargetLemmas::any_words_short))]
+pub fn any_target_in(alloc: Global, words: &[u8]) -> Result<Option<Target3>, Memory>
+    ensures target { IfOk result (λ to. to ≡ spec.any_target_in words.now) }
+    ensures short { IfOk result (λ to. IfSome to IsShortTarget) }
+{
     let (exten, behind) = cut_word(words);
     let (dialplan, behind) = cut_word(behind);
     let (context, _) = cut_word(behind);
@@ -81,7 +93,7 @@ fn target_of(
 ) -> Result<Option<Target3>, Memory>
     ensures { IfOk result (λ to. to ≡ spec.target_of exten.now dialplan.now context.now) }
 {
-    if !is_exten(exten) || !is_short(exten) || !is_short(dialplan) || !is_short(context) {
+    if !is_there(exten) || !is_short(exten) || !is_short(dialplan) || !is_short(context) {
         return Ok(None);
     }
     Ok(Some(Target3 {
@@ -91,11 +103,18 @@ fn target_of(
     }))
 }
 
-// Whether a word can be an extension: it is there, and begins with no `-`.
-fn is_exten(word: &[u8]) -> bool
-    ensures { result ≡ spec.is_exten word.now }
+// Whether a word is there.
+fn is_there(word: &[u8]) -> bool
+    ensures { result ≡ spec.is_there word.now }
 {
-    !matches!(word, [] | [b'-', ..])
+    !matches!(word, [])
+}
+
+// Whether a text begins with `-`.
+fn is_option(text: &[u8]) -> bool
+    ensures { result ≡ spec.is_option text.now }
+{
+    matches!(text, [b'-', ..])
 }
 
 // A word, if there is one.

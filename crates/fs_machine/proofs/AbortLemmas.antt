@@ -1,12 +1,11 @@
 -- A caller that leaves its queue tells so, and nothing else changes.
 use Rattle.std.proofs.Common.{◌≡◌, ℕ, Bool, true, false, if◌then◌else◌, Option, None, Some, refl}
-use Rattle.std.specs.Prelude.{nat_lt}
 use Rattle.fs_text.specs.Texts.{Text}
 use Rattle.fs_state.specs.declared.event.QueueAction.TheVariants.{Abort}
 use Rattle.fs_state.specs.Switch.{Switch, with_event}
 use Rattle.fs_state.specs.Hangups.{lives_at}
 use Rattle.fs_state.specs.Queues.{queue_event, queue_at, abort_told_of, abort_told}
-use Rattle.fs_machine.specs.Joining.{queue_left, both_queues_left}
+use Rattle.fs_machine.specs.Joining.{queue_left}
 
 -- a fact is kept that bears this event
 pub abort_of_kept : (P : Switch → Type 0) (slot : ℕ)
@@ -28,21 +27,13 @@ abort_channels slot s = by (queue_at s slot)
     by None = refl
     by (Some name) = refl
 
--- ---- whoever left a queue before
+-- ---- whoever leaves a queue
 
-module _ (P : Switch → Type 0)
-    (told : (name : Text) (slot : ℕ) (s : Switch) → P s → P (with_event (queue_event Abort name slot) s)) (before : Switch) where
-  pub queue_left_kept : (slot : ℕ) (s : Switch) → P s → P (queue_left before slot s)
-  queue_left_kept slot s h = by (lives_at s slot)
-    where
-      by : (live : Bool) → P (if live then abort_told_of slot (queue_at before slot) s else s)
-      by true = abort_of_kept P slot (λ name t k. told name slot t k) (queue_at before slot) s h
-      by false = h
-
-  pub queues_left_kept : (a b : ℕ) (s : Switch) → P s → P (both_queues_left before a b s)
-  queues_left_kept a b s h = by (nat_lt a b)
-    where
-      by : (test : Bool) →
-          P (if test then queue_left before b (queue_left before a s) else queue_left before a (queue_left before b s))
-      by true = queue_left_kept b (queue_left before a s) (queue_left_kept a s h)
-      by false = queue_left_kept a (queue_left before b s) (queue_left_kept b s h)
+pub queue_left_kept : (P : Switch → Type 0)
+    (told : (name : Text) (slot : ℕ) (s : Switch) → P s → P (with_event (queue_event Abort name slot) s)) (queue : Option Text) (slot : ℕ)
+    (s : Switch) → P s → P (queue_left queue slot s)
+queue_left_kept P told queue slot s h = by (lives_at s slot)
+  where
+    by : (live : Bool) → P (if live then abort_told_of slot queue s else s)
+    by true = abort_of_kept P slot (λ name t k. told name slot t k) queue s h
+    by false = h

@@ -1,6 +1,6 @@
 -- The walk goes on: commands, jobs and all acts.
-use Rattle.std.proofs.Common.{◌≡◌, ℕ, zero, suc, ◌+◌, ◌*◌, ◌<◌, ◌≤◌, ◌⊎◌, inl, inr, length, arith, nat_lt, Bool, true, false, if◌then◌else◌, [], ◌∷◌, Option, None, Some}
-use Rattle.std.proofs.Common.{◌++◌, ◌∙◌, Result, Ok, Err, refl, sym, ap, subst}
+use Rattle.std.proofs.Common.{◌≡◌, ℕ, zero, suc, ◌+◌, ◌*◌, ◌<◌, ◌≤◌, ◌⊎◌, inl, inr, length, arith, nat_lt, Bool, true, false, if◌then◌else◌, List, [], ◌∷◌, Option, None}
+use Rattle.std.proofs.Common.{Some, ◌∙◌, Result, Ok, Err, refl, sym, ap, subst}
 use Rattle.std.specs.Prelude.{◌&&◌, not, map, codes}
 use Rattle.std.specs.Option.{option_or, option_and_then}
 use Rattle.std.specs.Str.{bytes_eq}
@@ -20,6 +20,8 @@ use Rattle.fs_cmd.specs.declared.command.Form.TheVariants.{Plain, Json, Xml}
 use Rattle.fs_filter.specs.Asked.{asked_in}
 use Rattle.fs_filter.specs.Subscriptions.{Subscription, subscribed, unsubscribed, cleared, has_filter}
 use Rattle.fs_api.specs.declared.api.Api.{Api}
+use Rattle.fs_api.specs.declared.side.Side.{Side}
+use Rattle.fs_api.specs.declared.side.Side.TheVariants.{This}
 use Rattle.fs_api.specs.declared.api.Api.TheVariants as api
 use Rattle.fs_api.specs.Readings.{api_of, expanded_api_of}
 use Rattle.fs_chan.specs.declared.action.Action.{Action}
@@ -41,8 +43,6 @@ use Rattle.fs_state.specs.declared.job.Job.{Job}
 use Rattle.fs_state.specs.declared.job.JobWork.{JobWork}
 use Rattle.fs_state.specs.declared.job.JobWork.TheVariants as work
 use Rattle.fs_bridge.specs.declared.row.BridgeKind.TheVariants.{Joined}
-use Rattle.fs_bridge.specs.Closure.{Members}
-use Rattle.fs_text.specs.declared.causes.Cause.TheVariants.{OriginatorCancel}
 use Rattle.fs_text.specs.declared.states.State.TheVariants.{CsExchangeMedia}
 use Rattle.fs_chan.specs.Changes.{in_state, is_live, parked, transferred, takes_message, with_message}
 use Rattle.fs_chan.specs.Exports.{with_set}
@@ -52,7 +52,7 @@ use Rattle.fs_chan.specs.Controlling.{dial_of}
 use Rattle.fs_state.specs.Switch.{Switch, chan_at, with_chan, with_event, job_of, without_job, slot_named, is_full_of_jobs}
 use Rattle.fs_state.specs.Switch.{is_full_of_conns, passes_limit}
 use Rattle.fs_state.specs.Moves.{plain_event, after_move, after_completion}
-use Rattle.fs_state.specs.Hangups.{after_hangups, legs_at, lives, lives_at}
+use Rattle.fs_state.specs.Hangups.{lives, lives_at}
 use Rattle.fs_state.specs.Bridging.{can_join, joined_as, after_join}
 use Rattle.fs_machine.specs.declared.entry.Act.{Act}
 use Rattle.fs_machine.specs.declared.entry.Act.TheVariants as act
@@ -67,12 +67,11 @@ use Rattle.fs_machine.specs.Attempts.{after_verdict_on}
 use Rattle.fs_machine.specs.Owing.{job_uuid, background_begun, job_event, after_job_begin}
 use Rattle.fs_machine.specs.Jobs.{told_if, command_run, after_job_work, job_done_from, job_done}
 use Rattle.fs_machine.specs.Done.{Done, says, no_reply_yet}
-use Rattle.fs_machine.specs.Joining.{both_left, both_queues_left, in_the_way, after_leaving, both_in_media, joined_done, bridged_unless, bridge_done_at}
+use Rattle.fs_machine.specs.Joining.{in_the_way, after_departures, both_slots, both_in_media, joined_done, bridged_unless, bridge_done_at}
 use Rattle.fs_machine.specs.Joining.{uuid_bridge_done, is_ready}
-use Rattle.fs_machine.specs.Leaving.{after_departure, after_farewell, after_arrival, sent_at, sent_done}
-use Rattle.fs_state.specs.Leaving.{after_leaving_others}
-use Rattle.fs_machine.proofs.LeaveLemmas.{left_free, parked_stays, transferred_stays}
-use Rattle.fs_machine.proofs.BondLeaves.{departed_lone}
+use Rattle.fs_machine.specs.Leaving.{after_arrival, after_arrivals, peer_at, legs_meant, are_ready, legs_sent, sent_at, sent_done}
+use Rattle.fs_machine.proofs.LeaveLemmas.{parked_stays, transferred_stays}
+use Rattle.fs_machine.proofs.FreeLemmas.{Holds, IsFree, departed_frees, among_both, parked_free, transferred_free, arrived_free, one_ready}
 use Rattle.std.specs.List.{range_with_len}
 use Rattle.std.proofs.lemmas.Bool.{cases_eq, false≢true}
 use Rattle.std.proofs.lemmas.Option.{none-some}
@@ -98,33 +97,20 @@ use Rattle.fs_machine.specs.Controlling.{greeting_for}
 use Rattle.fs_machine.specs.Entries.{is_load}
 use Rattle.fs_machine.specs.Loading.{journal_limit_text, reload_begun}
 use Rattle.fs_machine.specs.Step.{after_close, acted, act_done}
-use Rattle.fs_machine.proofs.Kept.{IsApart, hold_in, Stays, Stage, Fact, KeptByCalls, DoesJob, KeptByJobs, KeptByDials, LeavesBy}
+use Rattle.fs_machine.proofs.Kept.{Stays, Stage, Fact, KeptByCalls, DoesJob, KeptByJobs, KeptByDials, LeavesBy}
 use Rattle.fs_machine.proofs.Kept.{IsShortWinner, KeptByReload}
-use Rattle.fs_machine.proofs.DrawnLemmas.{SameDrawn, both_left_drawn}
-use Rattle.fs_machine.proofs.Kept.{WasApart, WasLetGo, AreDead, MayGoOn, KeptByApi, KeptByCommands, KeptByMoves}
+use Rattle.fs_machine.proofs.DrawnLemmas.{departed_drawn}
+use Rattle.fs_machine.proofs.Kept.{NoneJoined, WasLetGo, AreDead, MayGoOn, KeptByApi, KeptByCommands, KeptByMoves}
 use Rattle.fs_machine.proofs.ShortLemmas.{right_holds, NamesShort, api_short, expanded_short}
 use Rattle.fs_machine.proofs.DialLemmas.{dialed_groups}
-use Rattle.fs_machine.proofs.JoinLemmas.{apart_now, apart_hung, apart_left, DialsNone, left_dials, left_dials_still, CanMeet}
-use Rattle.fs_machine.proofs.JoinLemmas.{meets_now, join_meets, media_meets, ready_lone}
+use Rattle.fs_machine.proofs.JoinLemmas.{ready_now, CanMeet, meets_now, join_meets, media_meets, ready_lone}
 use Rattle.fs_machine.proofs.JoinLemmas.{media_stays}
 use Rattle.fs_machine.proofs.StayLemmas.{moved_plain, early_vars, same_vars, same_holder, quiet_stays, dials_at_work}
 use Rattle.fs_machine.proofs.LimitLemmas.{with_set_limited}
 use Rattle.fs_machine.proofs.TryWalk.{verdict_kept}
-use Rattle.fs_machine.proofs.Walk.{completed_kept, let_go_kept, worked_kept}
-use Rattle.fs_machine.proofs.AbortLemmas.{queue_left_kept, queues_left_kept}
-use Rattle.fs_state.specs.Queues.{queue_event}
-use Rattle.fs_state.specs.declared.event.QueueAction.TheVariants.{Abort}
+use Rattle.fs_machine.proofs.Walk.{free_dials, completed_kept, let_go_kept, worked_kept}
 use Rattle.fs_machine.proofs.RestLemmas.{hung_rest, does_same}
 use Rattle.fs_machine.proofs.LoadLemmas.{load_kept}
-
--- ---- queues that were left
-
-left_apart : (before : Switch) (a b slot : ℕ) (s : Switch) → IsApart s slot → IsApart (both_queues_left before a b s) slot
-left_apart before a b slot s h =
-    queues_left_kept (λ (t : Switch). IsApart t slot) (λ name at t k. record { bridge = k.bridge; lone = k.lone }) before a b s h
-
-left_dialless : (before : Switch) (a b slot : ℕ) (s : Switch) → DialsNone s slot → DialsNone (both_queues_left before a b s) slot
-left_dialless before a b slot s h = queues_left_kept (λ (t : Switch). DialsNone t slot) (λ name at t k. k) before a b s h
 
 -- ---- the end of the switch
 
@@ -247,26 +233,29 @@ module _ (who : Giver) (P : Fact) (calls : KeptByCalls P) (commands : KeptByApi 
       by true = media_kept b (media_meets b a s second) (media_kept a first h)
       by false = media_kept a (media_meets a b s first) (media_kept b second h)
 
-  join_kept : (a b : ℕ) {s : Switch} → CanMeet s a → CanMeet s b → WasApart P s a → WasApart P s b → P (Some 0) s →
-      P (Some 0) (after_join Joined a b s)
-  join_kept a b {s} first second was other h = by (can_join a b s) refl
+  join_kept : (a b : ℕ) {s : Switch} → CanMeet s a → CanMeet s b → NoneJoined P s → P (Some 0) s → P (Some 0) (after_join Joined a b s)
+  join_kept a b {s} first second was h = by (can_join a b s) refl
     where
       by : (test : Bool) → can_join a b s ≡ test → P (Some 0) (if test then joined_as Joined a b s else s)
       by true is = calls.joined Joined a b first.chan second.chan is first.there second.there first.lone second.lone first.free
-          second.free was other h
+          second.free was h
       by false is = h
 
-  joined_kept : (a b : ℕ) (other : Text) {s : Switch} → IsApart s a → IsApart s b → DialsNone s a → DialsNone s b →
-      WasApart P s a → WasApart P s b → P (Some 0) s → P (Some 0) (joined_done a b other s).state
-  joined_kept a b other {s} first second one_dials two_dials one_was two_was h = by (lives_at s a) refl (lives_at s b) refl
+  joined_kept : (a b : ℕ) (other : Text) {s : Switch} → Holds IsFree s a → Holds IsFree s b → NoneJoined P s → P (Some 0) s →
+      P (Some 0) (joined_done a b other s).state
+  joined_kept a b other {s} first second was h = by (lives_at s a) refl (lives_at s b) refl
     where
+      meets : (slot : ℕ) → lives_at s slot ≡ true → Holds IsFree s slot → CanMeet s slot
+      meets slot live free =
+          meets_now s slot live (λ c there. (free c there).lone) (λ c there. free_dials c.wait (free c there).free)
+
       by : (one : Bool) → lives_at s a ≡ one → (two : Bool) → lives_at s b ≡ two →
           P (Some 0)
           (if one && two then says (made_text other) (both_in_media a b (after_join Joined a b s)) else says no_channel s).state
       by true live true alive =
-          let meets : CanMeet s a = meets_now s a live first one_dials in
-          let met : CanMeet s b = meets_now s b alive second two_dials in
-          both_media_kept a b (join_meets Joined a b a s meets) (join_meets Joined a b b s met) (join_kept a b meets met one_was two_was h)
+          let one : CanMeet s a = meets a live first in
+          let two : CanMeet s b = meets b alive second in
+          both_media_kept a b (join_meets Joined a b a s one) (join_meets Joined a b b s two) (join_kept a b one two was h)
       by true live false dead = h
       by false dead two alive = h
 
@@ -277,23 +266,11 @@ module _ (who : Giver) (P : Fact) (calls : KeptByCalls P) (commands : KeptByApi 
       way : (a b : ℕ) (found : Option Text) → in_the_way a b s ≡ found → P (Some 0) (bridged_unless found a b other s).state
       way a b (Some answer) is = commands.spent h
       way a b None is =
-          let apart = apart_now a b s is in
-          let named : Members = map (λ slot. (slot, OriginatorCancel)) (legs_at s a ++ legs_at s b) in
-          let t : Switch = after_hangups named s in
-          let left : SameDrawn s (both_left a b s) = both_left_drawn a b s apart.0 apart.1 in
-          let one = apart_hung a named s apart.0 in
-          let two = apart_hung b named s apart.1 in
-          let u : Switch = both_left a b s in
-          let drawn : SameDrawn s (both_queues_left s a b u) =
-          queues_left_kept (λ (v : Switch). SameDrawn s v) (λ name slot v k. k) s a b u left in
-          joined_kept a b other (left_apart s a b a u (apart_left a b (after_leaving a t) (apart_left a a t one)))
-          (left_apart s a b b u (apart_left b b (after_leaving a t) (apart_left b a t two)))
-          (left_dialless s a b a u (left_dials_still a b (after_leaving a t) (left_dials a t)))
-          (left_dialless s a b b u (left_dials b (after_leaving a t)))
-          (record { past = s; first = h; apart = apart.0.bridge; drawn = drawn })
-          (record { past = s; first = h; apart = apart.1.bridge; drawn = drawn })
-          (queues_left_kept (P (Some 0)) (λ name slot v k. calls.touches.told (queue_event Abort name slot) (refl, tt) k) s a b u
-          (calls.leaves a b apart.0 apart.1 h (commands.spent h)))
+          let ready = ready_now a b s is in
+          let slots : List ℕ = both_slots a b in
+          joined_kept a b other (departed_frees slots a s (among_both a b).0 (ready_lone (chan_at s a) ready.0))
+          (departed_frees slots b s (among_both a b).1 (ready_lone (chan_at s b) ready.1))
+          (record { past = s; first = h; drawn = departed_drawn slots s }) (calls.departs slots h (commands.spent h))
 
       by : (first second : Option ℕ) → P (Some 0) (bridge_done_at first second other s).state
       by (Some a) (Some b) = way a b (in_the_way a b s) refl
@@ -301,7 +278,7 @@ module _ (who : Giver) (P : Fact) (calls : KeptByCalls P) (commands : KeptByApi 
       by None (Some b) = commands.spent h
       by None None = commands.spent h
 
-  -- a channel leaves what it was in, and goes elsewhere
+  -- channels leave what they were in, and go elsewhere
   arrived_kept : (change : Chan → Chan) (slot : ℕ) {s : Switch} →
       ((c : Chan) → chan_at s slot ≡ Some c → is_live c ≡ true → Stays (Some 0) c (change c)) → P (Some 0) s →
       P (Some 0) (after_arrival change slot s)
@@ -313,30 +290,41 @@ module _ (who : Giver) (P : Fact) (calls : KeptByCalls P) (commands : KeptByApi 
           (λ c there. calls.touches.changed slot c (change c) there (stays c there (sym (ap lives there) ∙ live)) h) h
       by false dead = h
 
-  sent_kept : (change : Chan → Chan) (uuid : Text) →
-      ((c : Chan) → is_live c ≡ true → c.leg_of ≡ None → hold_in c.wait ≡ Ready → Stays (Some 0) c (change c)) → {s : Switch} →
-      P None s →
-      P (Some 0) (sent_done change uuid s).state
-  unfolding sent_done
-  sent_kept change uuid stays {s} h = by (slot_named uuid s)
-    where
-      ready : (slot : ℕ) (test : Bool) → is_ready (chan_at s slot) ≡ test →
-          P (Some 0) (if test then says ok (after_arrival change slot (after_farewell slot s)) else says not_ready s).state
-      ready slot true is =
-          let t : Switch = after_departure slot s in
-          arrived_kept change slot
-          (λ c there live.
-          let stood : chan_at t slot ≡ Some c =
-          queue_left_kept (λ (v : Switch). chan_at v slot ≡ Some c → chan_at t slot ≡ Some c) (λ name at v k. k) s slot t (λ is. is) there in
-          stays c live (departed_lone slot slot s (ready_lone (chan_at s slot) is) c stood)
-          (left_free slot (after_leaving_others slot s) c stood))
-          (queue_left_kept (P (Some 0)) (λ name at v k. calls.touches.told (queue_event Abort name at) (refl, tt) k) s slot t
-          (calls.departs slot h (commands.spent h)))
-      ready slot false is = commands.spent h
+  all_arrived_kept : (change : Chan → Chan) → ((c : Chan) → IsFree c → IsFree (change c)) →
+      ((c : Chan) → is_live c ≡ true → IsFree c → Stays (Some 0) c (change c)) → (slots : List ℕ) {s : Switch} →
+      ((slot : ℕ) → IsOneOf slot slots → Holds IsFree s slot) → P (Some 0) s → P (Some 0) (after_arrivals change slots s)
+  all_arrived_kept change frees stays [] {s} free h = h
+  all_arrived_kept change frees stays (slot ∷ slots) {s} free h =
+      all_arrived_kept change frees stays slots {s = after_arrival change slot s}
+      (λ other one. arrived_free change frees slot other s (free other (inr one)))
+      (arrived_kept change slot (λ c there live. stays c live (free slot (inl refl) c there)) h)
 
-      by : (found : Option ℕ) → P (Some 0) (sent_at change found s).state
+  sent_kept : (change : Chan → Chan) (side : Side) (uuid : Text) → ((c : Chan) → IsFree c → IsFree (change c)) →
+      ((c : Chan) → is_live c ≡ true → IsFree c → Stays (Some 0) c (change c)) → {s : Switch} → P None s →
+      P (Some 0) (sent_done change side uuid s).state
+  unfolding sent_done
+  sent_kept change side uuid frees stays {s} h = by (slot_named uuid s)
+    where
+      all_ready : (slots : List ℕ) (test : Bool) → are_ready s slots ≡ test →
+          P (Some 0) (if test then says ok (after_arrivals change slots (after_departures slots s)) else says not_ready s).state
+      all_ready slots true is =
+          all_arrived_kept change frees stays slots {s = after_departures slots s}
+          (λ slot one. departed_frees slots slot s one (ready_lone (chan_at s slot) (one_ready s slots is slot one)))
+          (calls.departs slots h (commands.spent h))
+      all_ready slots false is = commands.spent h
+
+      legs : (found : Option (List ℕ)) → P (Some 0) (legs_sent change found s).state
+      legs None = commands.spent h
+      legs (Some slots) = all_ready slots (are_ready s slots) refl
+
+      ready : (slot : ℕ) (test : Bool) →
+          P (Some 0) (if test then legs_sent change (legs_meant side slot (peer_at s slot)) s else says not_ready s).state
+      ready slot true = legs (legs_meant side slot (peer_at s slot))
+      ready slot false = commands.spent h
+
+      by : (found : Option ℕ) → P (Some 0) (sent_at change side found s).state
       by None = commands.spent h
-      by (Some slot) = ready slot (is_ready (chan_at s slot)) refl
+      by (Some slot) = ready slot (is_ready (chan_at s slot))
 
   -- at most one identifier is drawn for no slot
   done_plainly_kept : (what : Api) {s : Switch} → MayGoOn P who s → NamesShort what → P None s →
@@ -356,9 +344,11 @@ module _ (who : Giver) (P : Fact) (calls : KeptByCalls P) (commands : KeptByApi 
   done_plainly_kept (api.UuidDump uuid) may short h = calls.more (commands.spent h)
   done_plainly_kept (api.UuidBridge uuid other) may short h = calls.more (bridged_kept uuid other h)
   done_plainly_kept (api.UuidPark uuid) may short h =
-      calls.more (sent_kept parked uuid (λ c live lone free. parked_stays c live lone free) h)
-  done_plainly_kept (api.UuidTransfer uuid to) may short h =
-      calls.more (sent_kept (transferred to) uuid (λ c live lone free. transferred_stays to c short live lone free) h)
+      calls.more (sent_kept parked This uuid parked_free (λ c live free. parked_stays c live free.lone free.free) h)
+  done_plainly_kept (api.UuidTransfer uuid side to) may short h =
+      calls.more
+      (sent_kept (transferred to) side uuid (transferred_free to)
+      (λ c live free. transferred_stays to c short live free.lone free.free) h)
   done_plainly_kept (api.Hupall cause) {s} may short h =
       calls.more (calls.hung (map (λ slot. (slot, cause)) (all_slots s)) h (commands.spent h))
   done_plainly_kept api.Shutdown {s} may short h =

@@ -29,17 +29,17 @@ use Rattle.fs_state.specs.Moves.{orig_changed_from, orig_changed, leg_changed, i
 use Rattle.fs_state.specs.Moves.{hangup_event}
 use Rattle.fs_state.specs.Moves.{after_hangup_from, after_one_hangup}
 use Rattle.fs_state.specs.Hangups.{lives, lives_at, after_hangups, after_hangup}
+use Rattle.fs_state.specs.Leaving.{after_bridges_left}
 use Rattle.fs_state.specs.Bridging.{can_join, peer_of, with_peer_from, with_peer, joined_as}
 use Rattle.fs_machine.specs.Attempts.{awaits}
 use Rattle.fs_machine.specs.Bridging.{goes_on, after_going_on, bridge_failed_from, after_bridge_failure, disposed, after_bridge_win}
-use Rattle.fs_machine.specs.Joining.{after_leaving}
-use Rattle.fs_machine.specs.Leaving.{after_departure}
+use Rattle.fs_machine.specs.Joining.{after_leaving, after_departures}
 use Rattle.fs_machine.proofs.LeaveLemmas.{departed_kept}
 use Rattle.fs_machine.proofs.Kept.{Stage, hold_in, Links, Keeps, KeptByTouches}
 use Rattle.fs_machine.proofs.StayLemmas.{exchange_lives, held_keeps, moved_there, changed_there, state_told_kept, orig_changed_channels}
 use Rattle.fs_machine.proofs.JoinLemmas.{rest_dials}
 use Rattle.fs_machine.proofs.TieLemmas.{lives_as}
-use Rattle.fs_machine.proofs.HangLemmas.{Settles, Freed, Resumes, Halts, hangups_kept_by}
+use Rattle.fs_machine.proofs.HangLemmas.{Settles, Freed, Resumes, Halts, hangups_kept_by, hangs_as_left, bridges_left_kept_by}
 use Rattle.fs_machine.proofs.ClosureLemmas.{hangs_up}
 use Rattle.fs_machine.proofs.CutLemmas.{DeadAt, hangup_kills}
 use Rattle.fs_machine.proofs.CanLemmas.{answerer_lives}
@@ -230,6 +230,11 @@ module _ (open_at : ℕ → Type 0) where
       (λ slot old new t there how k. settled_await (λ at. hangs_up at named s) slot old new t there how k) (λ number t k. k)
       (λ cause slot t hung k. one_hung_await cause slot t k) h
 
+  bridges_left_await : (slots : List ℕ) (s : Switch) → AwaitAt open_at s → AwaitAt open_at (after_bridges_left slots s)
+  bridges_left_await slots s h =
+      bridges_left_kept_by slots s (AwaitAt open_at) (λ event t k. k) (settled_await (hangs_as_left slots s)) (λ number t k. k)
+      (λ cause slot t hung k. one_hung_await cause slot t k) h
+
   -- ---- bridges
 
   bridged_await : (slot other : ℕ) (d : Chan) (s : Switch) → AwaitAt open_at s →
@@ -308,7 +313,7 @@ joined_await kind caller answerer s h =
     let t : Switch = with_bridge caller answerer kind s in
     peer_await NoSlot answerer caller (with_peer caller answerer t) (peer_await NoSlot caller answerer t h)
 
-pub left_await_all : (slot : ℕ) (s : Switch) → Awaits s → Awaits (after_leaving slot s)
+left_await_all : (slot : ℕ) (s : Switch) → Awaits s → Awaits (after_leaving slot s)
 left_await_all slot s h =
     let awaited : Option ℕ = option_and_then awaited_by (chan_at s slot) in
     let t : Switch = orig_given_up slot awaited s in
@@ -317,10 +322,9 @@ left_await_all slot s h =
     close slot (with_changed_chan at_leisure slot t) (changed_none at_leisure slot t (λ c. rest_dials None c.state))
     (changed_await (λ at. at ≡ slot) at_leisure slot t (λ c. awaits_none c (at_leisure c) (rest_dials None c.state)) gone)
 
-pub departed_await : (slot : ℕ) (s : Switch) → Awaits s → Awaits (after_departure slot s)
-departed_await slot s h =
-    departed_kept Awaits (λ event t k. k) (λ at old new t there how k. settled_await NoSlot (λ seat. false) at old new t there how k)
-    (λ number t k. k) (hung_await NoSlot) left_await_all slot s h
+pub departed_await : (slots : List ℕ) (s : Switch) → Awaits s → Awaits (after_departures slots s)
+departed_await slots s h =
+    departed_kept Awaits (λ event t k. k) left_await_all (hung_await NoSlot) (bridges_left_await NoSlot) slots s h
 
 -- what a slot waited for is gone
 pub without_await : (slot orig : ℕ) (s : Switch) → awaits slot orig s ≡ true → Awaits s → AwaitsBut slot (without_orig orig s)

@@ -42,8 +42,7 @@ use Rattle.fs_machine.specs.declared.owing.Giver.TheVariants as giver
 use Rattle.fs_machine.specs.Owing.{job_number, after_job_begin, background_begun, after_job_end}
 use Rattle.fs_chan.specs.Moments.{moment_after}
 use Rattle.fs_machine.proofs.Kept.{Stage, hold_in, Fact, KeptByTouches, KeptByCalls, KeptByBirths, DoesJob, raced, KeptByJobs, KeptByDials}
-use Rattle.fs_machine.proofs.Kept.{apart_by, AreDead, goes_on_by, let_go_by, KeptByApi, KeptByCommands, KeptByMoves}
-use Rattle.fs_machine.proofs.JoinLemmas.{both_left_kept}
+use Rattle.fs_machine.proofs.Kept.{none_joined_by, AreDead, goes_on_by, let_go_by, KeptByApi, KeptByCommands, KeptByMoves}
 use Rattle.fs_machine.proofs.StayLemmas.{moved_there}
 use Rattle.fs_machine.proofs.NameLemmas.{leg_chan, far_chan, pair_channels}
 use Rattle.fs_machine.proofs.Walk.{group_made_kept}
@@ -55,7 +54,7 @@ use Rattle.fs_machine.proofs.BondTables.{Bonds, NoSlot, Stood, stood}
 use Rattle.fs_machine.proofs.JoinableLemmas.{winner_joins}
 use Rattle.fs_machine.proofs.AwaitedTables.{HasOwner, Await, awaits_none, new_await, left_await, rows_await, stay_new, gone_await}
 use Rattle.fs_machine.proofs.AwaitedLemmas.{Awaits, touches_await, moved_await, orig_changed_await, hung_await, failed_await, won_await}
-use Rattle.fs_machine.proofs.AwaitedLemmas.{taken_await, joined_await, left_await_all, departed_await, without_await}
+use Rattle.fs_machine.proofs.AwaitedLemmas.{taken_await, joined_await, departed_await, without_await}
 
 -- ---- births
 
@@ -234,16 +233,11 @@ module _ (before : Switch) (stand : LegsStand (roles_of before)) (left : has_num
   calls_wait = record {
     touches = touches_wait;
     hung = λ named {s = s} early h. (kept.calls.hung named early.0 h.0, hung_await NoSlot named s h.1);
-    joined = λ kind caller answerer c d {s = s} can there other one two first second was were h. (
-      kept.calls.joined kind caller answerer c d can there other one two first second (apart_by caller was (λ t k. k.0))
-          (apart_by answerer were (λ t k. k.0)) h.0,
+    joined = λ kind caller answerer c d {s = s} can there other one two first second was h. (
+      kept.calls.joined kind caller answerer c d can there other one two first second (none_joined_by was (λ t k. k.0)) h.0,
       joined_await kind caller answerer s h.1,
     );
-    leaves = λ one other {s = s} first second early h. (
-      kept.calls.leaves one other first second early.0 h.0,
-      both_left_kept Awaits (hung_await NoSlot) (λ slot t apart k. left_await_all slot t k) one other s first second h.1,
-    );
-    departs = λ slot {s = s} early h. (kept.calls.departs slot early.0 h.0, departed_await slot s h.1);
+    departs = λ slots {s = s} early h. (kept.calls.departs slots early.0 h.0, departed_await slots s h.1);
     more = λ h. (kept.calls.more h.0, h.1);
     gone = λ slot old {s = s} there dead early h. (kept.calls.gone slot old there dead early.0 h.0, left_await NoSlot s.channels s.origs slot h.1);
   }

@@ -7,13 +7,18 @@ use Rattle.std.proofs.lemmas.Option.{none-some, same_Some}
 use Rattle.fs_text.specs.declared.causes.Cause.{Cause}
 use Rattle.fs_text.specs.declared.causes.Cause.TheVariants.{OriginatorCancel}
 use Rattle.fs_text.specs.declared.states.State.TheVariants.{CsHangup}
-use Rattle.fs_bridge.specs.declared.after.After.{After}
+use Rattle.fs_bridge.specs.declared.after.After.TheVariants.{Hangup}
 use Rattle.fs_bridge.specs.declared.row.Row.{Row}
-use Rattle.fs_bridge.specs.Closure.{Members, by_partner, by_origination, by_peer, cancelled, members_of}
+use Rattle.fs_bridge.specs.Closure.{Member, Members, by_partner, by_origination, by_peer, cancelled, peer_in, members_of, closure_of}
 use Rattle.fs_bridge.specs.Hangups.{IsOneOf}
-use Rattle.fs_bridge.specs.Worlds.{World}
+use Rattle.fs_bridge.specs.Leaving.{parted_world, first_round}
+use Rattle.fs_bridge.specs.Leavings.{IsLeftBehind}
+use Rattle.fs_bridge.specs.Orders.{has_slot}
+use Rattle.fs_bridge.specs.Worlds.{World, IsSlot}
 use Rattle.fs_bridge.proofs.DragLemmas.{one_front, one_back}
-use Rattle.fs_bridge.proofs.SettledLemmas.{one_stands, dragged_hang_up}
+use Rattle.fs_bridge.proofs.OnceLemmas.{has_order}
+use Rattle.fs_bridge.proofs.PartLemmas.{all_from_one, first_are_named_or_left}
+use Rattle.fs_bridge.proofs.SettledLemmas.{AreSlots, AreLive, dragged_hang_up}
 use Rattle.fs_chan.specs.declared.chan.Chan.{Chan}
 use Rattle.fs_chan.specs.Bridging.{awaited_by, at_leisure}
 use Rattle.fs_chan.specs.Changes.{is_live, hung_up}
@@ -24,30 +29,33 @@ use Rattle.fs_seats.specs.Seats.{held_in, with_held}
 use Rattle.fs_seats.specs.Rows.{with_row, without_row}
 use Rattle.fs_seats.proofs.TableLemmas.{IsWrittenOrKept, written_or_kept}
 use Rattle.fs_state.specs.declared.event.Event.{Event}
-use Rattle.fs_state.specs.Switch.{Switch, chan_at, with_chan, without_bridge, with_event, orig_of, without_orig}
+use Rattle.fs_state.specs.Switch.{Switch, chan_at, with_chan, bridge_at, without_bridge, with_event, orig_of, without_orig}
 use Rattle.fs_state.specs.Moves.{with_state_events, orig_changed_from, orig_changed, leg_changed, its_leg_changed}
 use Rattle.fs_state.specs.Moves.{hangup_event, is_owner, given_up_by, orig_given_up, after_hangup_from, after_one_hangup}
-use Rattle.fs_state.specs.Hangups.{lives, lives_at, living_in, legs_at, row_at, world_of, living_of, after_survival, after_hangups}
-use Rattle.fs_state.specs.Leaving.{leaver, dropped_by, after_parting, after_leaving_others}
+use Rattle.fs_state.specs.Hangups.{lives, lives_at, living_in, legs_at, row_at, world_of, living_of, after_hangups}
+use Rattle.fs_state.specs.Leaving.{all_legs_at, living_among, after_bridges_left}
+use Rattle.fs_state.specs.Queues.{queue_at}
 use Rattle.fs_state.proofs.LegTables.{Origs, berth_at, in_slot}
-use Rattle.fs_machine.specs.Joining.{after_leaving, both_left}
-use Rattle.fs_machine.specs.Leaving.{after_departure}
+use Rattle.fs_machine.specs.Joining.{after_leaving, after_farewell, after_farewells, after_departures}
 use Rattle.fs_machine.specs.Sound.{IsLegIn}
-use Rattle.fs_machine.proofs.StayLemmas.{park_lives, idle_lives, state_told_kept, changed_there}
+use Rattle.fs_machine.proofs.StayLemmas.{hangup_dead, park_lives, idle_lives, state_told_kept, changed_there}
 use Rattle.fs_machine.proofs.CameLemmas.{IsLess, CameFrom, Came, rest_less, park_less, hung_less, freed_less, came_self}
-use Rattle.fs_machine.proofs.CameLemmas.{came_put, came_hung, came_left}
+use Rattle.fs_machine.proofs.CameLemmas.{came_put, came_hung, came_bridges_left, came_left}
 use Rattle.fs_machine.proofs.LivingLemmas.{lives_there, living_there}
 use Rattle.fs_machine.proofs.TieLemmas.{lives_as}
-use Rattle.fs_machine.proofs.HangLemmas.{dies, Falls, Cut, Unbridged, Rests, Parks, Settles, Freed, Resumes, Halts, given_up_kept}
-use Rattle.fs_machine.proofs.HangLemmas.{hangups_kept_by}
-use Rattle.fs_machine.proofs.ClosureLemmas.{NoneAtZero, are_slots, hangs_up, same_members, HasMember, has_member}
-use Rattle.fs_machine.proofs.CutLemmas.{DeadAt, dead_survivals, members_die, named_dies, slots_die}
-use Rattle.fs_machine.proofs.LeaveLemmas.{others_left, parted_kept, survived_kept}
+use Rattle.fs_machine.proofs.AbortLemmas.{queue_left_kept}
+use Rattle.fs_machine.proofs.FreeLemmas.{Holds, holds_hung, holds_bridges_left, holds_left}
+use Rattle.fs_machine.proofs.HangLemmas.{dies, Falls, Cut, Unbridged, Rests, Parks, Settles, Freed, Resumes, Halts}
+use Rattle.fs_machine.proofs.HangLemmas.{hangups_kept_by, hangs_as_left, bridges_left_kept_by}
+use Rattle.fs_machine.proofs.ClosureLemmas.{NoneAtZero, are_slots, hangs_up, HasMember, has_member}
+use Rattle.fs_machine.proofs.CutLemmas.{DeadAt, members_die, left_die, slots_die}
 use Rattle.fs_machine.proofs.LegLemmas.{Roles, roles_of, IsLegOf, LegsStand}
-use Rattle.fs_machine.proofs.LegHangups.{settles_leg}
-use Rattle.fs_machine.proofs.PartnerMoves.{zero_put, not_zero}
-use Rattle.fs_machine.proofs.BondTables.{Bonds, NoSlot}
-use Rattle.fs_machine.proofs.BondLeaves.{Holds, holds_put, holds_hung, parted_bonds}
+use Rattle.fs_machine.proofs.LegHangups.{hung_legs}
+use Rattle.fs_machine.proofs.PartnerMoves.{hung_zero}
+use Rattle.fs_machine.proofs.BondRows.{leg_part, peer_leg}
+use Rattle.fs_machine.proofs.BondLemmas.{row_seen}
+use Rattle.fs_machine.proofs.BondTables.{NamesPeer, Bonds, NoSlot}
+use Rattle.fs_machine.proofs.BondHangups.{hung_bonds}
 use Rattle.fs_machine.proofs.BerthTables.{HasBerth, answered_stays, died_stays, row_stays, gone_stays, leg_in}
 
 -- ---- what holds of channels and originations
@@ -162,6 +170,16 @@ lively_falls hangs seat old new (Unbridged cause) h some = h some
 lively_falls hangs seat old new (Rests outlives live) h some = live
 lively_falls hangs seat old new (Parks outlives live) h some = park_lives
 
+-- whoever is dead stays dead
+abbrev IsDead : Chan → Type 0
+IsDead c = is_live c ≡ false
+
+dead_falls : (hangs : ℕ → Bool) (seat : ℕ) (old new : Chan) → Falls hangs seat old new → IsDead old → IsDead new
+dead_falls hangs seat old new (Cut cause hung) h = hangup_dead
+dead_falls hangs seat old new (Unbridged cause) h = h
+dead_falls hangs seat old new (Rests outlives live) h = h
+dead_falls hangs seat old new (Parks outlives live) h = absurd (true≢false (sym live ∙ h))
+
 -- who is dead names none
 pub dead_names : (s : Switch) → AllLively s → (slot number : ℕ) (c : Chan) → chan_at s slot ≡ Some c → c.leg_of ≡ Some number →
     lives_at s slot ≡ false → ⊥
@@ -192,152 +210,215 @@ settles_less hangs slot old new (Freed cause) = freed_less cause old
 settles_less hangs slot old new (Resumes outlives live) = rest_less old
 settles_less hangs slot old new (Halts outlives live) = park_less old
 
-lively_settles : (hangs : ℕ → Bool) (slot : ℕ) (old new : Chan) → Settles hangs slot old new → IsLively old → IsLively new
-lively_settles hangs slot old new (Freed cause) h some = h some
-lively_settles hangs slot old new (Resumes outlives live) h some = live
-lively_settles hangs slot old new (Halts outlives live) h some = park_lives
+-- ---- whoever hangs up
 
--- ---- a hangup
+-- no channel comes to name or to wait for anything, and each leg stays that does not hang up
+record Falling (hangs : ℕ → Bool) (s t : Switch) : Type 0 where
+  came : Came s t
+  stays : (seat position number at : ℕ) → berth_at s.origs seat position ≡ Some (in_slot number at) → hangs at ≡ false →
+      berth_at t.origs seat position ≡ Some (in_slot number at)
 
-module _ (named : Members) (s : Switch) (legs : LegsStand (roles_of s)) (zero : NoneAtZero s) (bonds : Bonds s) (h : Berthed s) where
-  -- a leg of what one dialed who hangs up does, too
-  legs_hang : (slot number at : ℕ) (c : Chan) → chan_at s slot ≡ Some c → awaited_by c ≡ Some number → HasBerth s.origs number at →
-      hangs_up slot named s ≡ true → hangs_up at named s ≡ true
-  legs_hang slot number at c there waits berth hangs =
-      let w : World = world_of s in
-      let m : HasMember slot (members_of w (living_of s named)) =
-      has_member slot (members_of w (living_of s named)) (sym (same_members named s slot) ∙ hangs) in
-      let its : IsLegOf s.channels (in_slot number at) = legs.stand berth.seat berth.position (in_slot number at) berth.at in
-      let here : at ≡ its.at = same_Some at its.at its.is in
-      let lived : lives_at s at ≡ true = ap (lives_at s) here ∙ (ap lives its.there ∙ its.live) in
-      let among : IsOneOf (cancelled at) (by_origination w m.member) =
-      subst (λ (who : ℕ). IsOneOf (cancelled at) (map cancelled (legs_at s who))) (sym m.at)
-      (one_cancelled at (legs_at s slot) (leg_dialed s slot number at c there waits (leg_in s number at legs.distinct berth))) in
-      same_members named s at
-      ∙ dragged_hang_up w (living_of s named) (cancelled at) (are_slots s zero) (filter_passes (λ m. lives_at s m.0) named)
-      (record {
-        by = m.member;
-        member = m.one;
-        dragged =
-            one_back (cancelled at) (by_partner w m.member) (by_origination w m.member ++ by_peer w m.member)
-            (one_front (cancelled at) (by_origination w m.member) (by_peer w m.member) among);
-      }) lived
+-- a leg of what one dialed who hangs up does, too
+abbrev LegsHang : (ℕ → Bool) → Switch → Type 0
+LegsHang hangs s =
+    (slot number at : ℕ) (c : Chan) → chan_at s slot ≡ Some c → awaited_by c ≡ Some number → HasBerth s.origs number at →
+    hangs slot ≡ true → hangs at ≡ true
 
-  -- no channel comes to name or to wait for anything, and each leg stays that does not hang up
-  record Falling (t : Switch) : Type 0 where
-    came : Came s t
-    stays : (seat position number at : ℕ) → berth_at s.origs seat position ≡ Some (in_slot number at) → hangs_up at named s ≡ false →
-        berth_at t.origs seat position ≡ Some (in_slot number at)
-
-  told_falling : (event : Event) (t : Switch) → Falling t → Falling (with_event event t)
+module _ (hangs : ℕ → Bool) (s : Switch) (legs_hang : LegsHang hangs s) where
+  told_falling : (event : Event) (t : Switch) → Falling hangs s t → Falling hangs s (with_event event t)
   told_falling event t k = record { came = k.came; stays = k.stays }
 
+  put_falling : (slot : ℕ) (old new : Chan) (t : Switch) → chan_at t slot ≡ Some old → Settles hangs slot old new → Falling hangs s t →
+      Falling hangs s (with_chan slot (Some new) t)
+  put_falling slot old new t there how k =
+      record { came = came_put s t slot old new there (settles_less hangs slot old new how) k.came; stays = k.stays }
+
+  end_falling : (number : ℕ) (t : Switch) → Falling hangs s t → Falling hangs s (without_bridge number t)
+  end_falling number t k = record { came = k.came; stays = k.stays }
+
   -- the leg that a channel is dies
-  death_falling : (cause : Cause) (slot place : ℕ) (leg_of : Option ℕ) (t : Switch) → hangs_up slot named s ≡ true → Falling t →
-      Falling (its_leg_changed (λ position. with_death position place cause) slot leg_of t)
-  death_falling cause slot place None t hangs k = k
-  death_falling cause slot place (Some number) t hangs k = by (orig_of t number) refl
+  death_falling : (cause : Cause) (slot place : ℕ) (leg_of : Option ℕ) (t : Switch) → hangs slot ≡ true → Falling hangs s t →
+      Falling hangs s (its_leg_changed (λ position. with_death position place cause) slot leg_of t)
+  death_falling cause slot place None t hung k = k
+  death_falling cause slot place (Some number) t hung k = by (orig_of t number) refl
     where
       change : Orig → Orig
       change = dies cause place slot
 
-      by : (found : Option Orig) → orig_of t number ≡ found → Falling (orig_changed_from change number found t)
+      by : (found : Option Orig) → orig_of t number ≡ found → Falling hangs s (orig_changed_from change number found t)
       by None is = k
       by (Some o) is = record {
         came = k.came;
         stays = λ seat position n at has apart.
             row_stays t.origs number o (change o) is seat position (in_slot n at)
             (λ old. died_stays place slot number cause o position (in_slot n at)
-            (λ same. true≢false (sym hangs ∙ (ap (λ who. hangs_up who named s) (sym (same_Some at slot same)) ∙ apart))) old)
+            (λ same. true≢false (sym hung ∙ (ap hangs (sym (same_Some at slot same)) ∙ apart))) old)
             (k.stays seat position n at has apart);
       }
 
   -- what it dialed is given up
   given_falling : (slot : ℕ) (c : Chan) (awaited : Option ℕ) (t : Switch) → chan_at s slot ≡ Some c →
-      ((number : ℕ) → awaited ≡ Some number → awaited_by c ≡ Some number) → hangs_up slot named s ≡ true → Falling t →
-      Falling (orig_given_up slot awaited t)
-  given_falling slot c None t there waits hangs k = k
-  given_falling slot c (Some number) t there waits hangs k = by (orig_of t number)
+      ((number : ℕ) → awaited ≡ Some number → awaited_by c ≡ Some number) → hangs slot ≡ true → Falling hangs s t →
+      Falling hangs s (orig_given_up slot awaited t)
+  given_falling slot c None t there waits hung k = k
+  given_falling slot c (Some number) t there waits hung k = by (orig_of t number)
     where
-      gone : Falling (without_orig number t)
+      gone : Falling hangs s (without_orig number t)
       gone = record {
         came = k.came;
         stays = λ seat position n at has apart.
             gone_stays t.origs number seat position (in_slot n at)
             (λ same. true≢false
             (sym (legs_hang slot n at c there (waits number refl ∙ ap Some (sym same))
-            (record { seat = seat; position = position; at = has }) hangs) ∙ apart))
+            (record { seat = seat; position = position; at = has }) hung) ∙ apart))
             (k.stays seat position n at has apart);
       }
 
-      either : (test : Bool) → Falling (if test then without_orig number t else t)
+      either : (test : Bool) → Falling hangs s (if test then without_orig number t else t)
       either true = gone
       either false = k
 
-      by : (found : Option Orig) → Falling (given_up_by slot number found t)
+      by : (found : Option Orig) → Falling hangs s (given_up_by slot number found t)
       by None = k
       by (Some o) = either (is_owner slot o.owner)
 
-  one_falling : (cause : Cause) (slot : ℕ) (t : Switch) → hangs_up slot named s ≡ true → Falling t → Falling (after_one_hangup cause slot t)
-  one_falling cause slot t hangs k = by (chan_at t slot) refl
+  one_falling : (cause : Cause) (slot : ℕ) (t : Switch) → hangs slot ≡ true → Falling hangs s t →
+      Falling hangs s (after_one_hangup cause slot t)
+  one_falling cause slot t hung k = by (chan_at t slot) refl
     where
       cut : Chan → Switch
       cut c = with_state_events c.state CsHangup slot (with_event (hangup_event cause slot) (with_chan slot (Some (hung_up cause c)) t))
 
-      cut_falling : (c : Chan) → chan_at t slot ≡ Some c → Falling (cut c)
+      cut_falling : (c : Chan) → chan_at t slot ≡ Some c → Falling hangs s (cut c)
       cut_falling c is =
-          state_told_kept Falling told_falling c.state CsHangup slot
+          state_told_kept (Falling hangs s) told_falling c.state CsHangup slot
           {s = with_event (hangup_event cause slot) (with_chan slot (Some (hung_up cause c)) t)}
           (told_falling (hangup_event cause slot) (with_chan slot (Some (hung_up cause c)) t)
           (record { came = came_put s t slot c (hung_up cause c) is (hung_less cause c) k.came; stays = k.stays }))
 
       live : (c : Chan) → chan_at t slot ≡ Some c → (test : Bool) →
-          Falling
+          Falling hangs s
           (if test then orig_given_up slot (awaited_by c)
           (its_leg_changed (λ position. with_death position t.entries cause) slot c.leg_of (cut c))
           else t)
       live c is true =
           let from : CameFrom s slot c = k.came slot c is in
           given_falling slot from.was (awaited_by c)
-          (its_leg_changed (λ position. with_death position t.entries cause) slot c.leg_of (cut c)) from.there from.less.waits hangs
-          (death_falling cause slot t.entries c.leg_of (cut c) hangs (cut_falling c is))
+          (its_leg_changed (λ position. with_death position t.entries cause) slot c.leg_of (cut c)) from.there from.less.waits hung
+          (death_falling cause slot t.entries c.leg_of (cut c) hung (cut_falling c is))
       live c is false = k
 
-      by : (found : Option Chan) → chan_at t slot ≡ found → Falling (after_hangup_from cause slot found t)
+      by : (found : Option Chan) → chan_at t slot ≡ found → Falling hangs s (after_hangup_from cause slot found t)
       by None is = k
       by (Some c) is = live c is (is_live c)
 
-  hung_falling : Falling (after_hangups named s)
-  hung_falling =
-      hangups_kept_by named s Falling told_falling
-      (λ slot old new t there how k. record {
-        came = came_put s t slot old new there (settles_less (λ at. hangs_up at named s) slot old new how) k.came;
-        stays = k.stays;
-      })
-      (λ number t k. record { came = k.came; stays = k.stays }) one_falling (record { came = came_self s; stays = λ seat position n at has apart. has })
-
-  pub hung_berthed : Berthed (after_hangups named s)
-  hung_berthed slot number c there names = inr (by (hangs_up slot named s) refl)
+  -- each channel that lives still and names an origination is a living leg of it
+  fallen_berthed : (t : Switch) → Falling hangs s t → AllLively t → ((slot : ℕ) → hangs slot ≡ true → DeadAt slot t) → Berthed s → Berthed t
+  fallen_berthed t k lively dies h slot number c there names = inr (by (hangs slot) refl)
     where
-      t : Switch
-      t = after_hangups named s
-
       from : CameFrom s slot c
-      from = hung_falling.came slot c there
+      from = k.came slot c there
 
       berth : HasBerth s.origs number slot
       berth = berth_now s h slot number from.was from.there (from.less.names number names)
 
-      lively : AllLively t
-      lively seat = holds_hung IsLively lively_falls seat named s (all_lively s bonds seat)
-
-      by : (test : Bool) → hangs_up slot named s ≡ test → HasBerth t.origs number slot
-      by true hangs = absurd (dead_names t lively slot number c there names (members_die named s slot hangs))
+      by : (test : Bool) → hangs slot ≡ test → HasBerth t.origs number slot
+      by true hung = absurd (dead_names t lively slot number c there names (dies slot hung))
       by false apart = record {
         seat = berth.seat;
         position = berth.position;
-        at = hung_falling.stays berth.seat berth.position number slot berth.at apart;
+        at = k.stays berth.seat berth.position number slot berth.at apart;
       }
+
+unmoved : (hangs : ℕ → Bool) (s : Switch) → Falling hangs s s
+unmoved hangs s = record { came = came_self s; stays = λ seat position n at has apart. has }
+
+-- ---- a closure
+
+-- the channels of a switch, in bridges of these rows
+abbrev world_in : Switch → (ℕ → Option Row) → World
+world_in s rows = record (world_of s) { row = rows }
+
+-- who hangs up there with those that are named
+abbrev hung_in : Switch → (ℕ → Option Row) → Members → ℕ → Bool
+hung_in s rows named slot = has_slot slot (closure_of (world_in s rows) named).members
+
+slots_in : (s : Switch) (rows : ℕ → Option Row) → NoneAtZero s → AreSlots (world_in s rows)
+slots_in s rows zero slot live =
+    let is : IsSlot (world_of s) slot = are_slots s zero slot live in record { first = is.first; last = is.last }
+
+-- whoever hangs up drags its legs
+closure_legs_hang : (s : Switch) (rows : ℕ → Option Row) (named : Members) → LegsStand (roles_of s) → NoneAtZero s →
+    AreLive (world_in s rows) named → LegsHang (hung_in s rows named) s
+closure_legs_hang s rows named legs zero are slot number at c there waits berth hangs =
+    let w : World = world_in s rows in
+    let order : (who : ℕ) → has_slot who (closure_of w named).members ≡ has_slot who (members_of w named) =
+    λ who. has_order who [] (members_of w named) in
+    let m : HasMember slot (members_of w named) = has_member slot (members_of w named) (sym (order slot) ∙ hangs) in
+    let its : IsLegOf s.channels (in_slot number at) = legs.stand berth.seat berth.position (in_slot number at) berth.at in
+    let here : at ≡ its.at = same_Some at its.at its.is in
+    let lived : lives_at s at ≡ true = ap (lives_at s) here ∙ (ap lives its.there ∙ its.live) in
+    let among : IsOneOf (cancelled at) (by_origination w m.member) =
+    subst (λ (who : ℕ). IsOneOf (cancelled at) (map cancelled (legs_at s who))) (sym m.at)
+    (one_cancelled at (legs_at s slot) (leg_dialed s slot number at c there waits (leg_in s number at legs.distinct berth))) in
+    order at
+    ∙ dragged_hang_up w named (cancelled at) (slots_in s rows zero) are
+    (record {
+      by = m.member;
+      member = m.one;
+      dragged =
+          one_back (cancelled at) (by_partner w m.member) (by_origination w m.member ++ by_peer w m.member)
+          (one_front (cancelled at) (by_origination w m.member) (by_peer w m.member) among);
+    }) lived
+
+pub hung_berthed : (named : Members) (s : Switch) → LegsStand (roles_of s) → NoneAtZero s → Bonds s → Berthed s →
+    Berthed (after_hangups named s)
+hung_berthed named s legs zero bonds h =
+    let hangs : ℕ → Bool = λ at. hangs_up at named s in
+    let drags : LegsHang hangs s =
+    closure_legs_hang s (row_at s) (living_of s named) legs zero (filter_passes (λ m. lives_at s m.0) named) in
+    fallen_berthed hangs s drags (after_hangups named s)
+    (hangups_kept_by named s (Falling hangs s) (told_falling hangs s drags) (put_falling hangs s drags) (end_falling hangs s drags)
+    (one_falling hangs s drags) (unmoved hangs s))
+    (λ at. holds_hung IsLively lively_falls at named s (all_lively s bonds at)) (members_die named s) h
+
+-- ---- bridges are left
+
+-- those who are left live
+left_live : (slots : List ℕ) (s : Switch) → Bonds s →
+    AreLive (parted_world (world_of s) (living_among s slots)) (first_round (world_of s) [] (living_among s slots))
+left_live slots s bonds =
+    all_from_one (λ m. lives_at s m.0 ≡ true) (first_round w [] left)
+    (λ m one. by m ((first_are_named_or_left w [] left m).0 one))
+  where
+    w : World
+    w = world_of s
+
+    left : List ℕ
+    left = living_among s slots
+
+    by : (m : Member) → IsOneOf m [] ⊎ IsLeftBehind w left m.0 (Hangup m.1) → lives_at s m.0 ≡ true
+    by m (inl none) = absurd none
+    by m (inr behind) =
+        let row : Row = behind.other.row in
+        let part : bridge_at s behind.by ≡ Some row = row_seen s behind.by row behind.other.bridge in
+        let peer : bridge_at s (peer_in row behind.by) ≡ Some row =
+        leg_part s.bridges behind.by (peer_in row behind.by) row bonds.rows part (peer_leg row behind.by) in
+        let names : NamesPeer s.channels (peer_in row behind.by) (peer_in row (peer_in row behind.by)) =
+        bonds.legs (peer_in row behind.by) row peer in
+        ap (lives_at s) behind.other.peer ∙ (ap lives names.there ∙ names.live)
+
+bridges_left_berthed : (slots : List ℕ) (s : Switch) → LegsStand (roles_of s) → NoneAtZero s → Bonds s → Berthed s →
+    Berthed (after_bridges_left slots s)
+bridges_left_berthed slots s legs zero bonds h =
+    let left : List ℕ = living_among s slots in
+    let hangs : ℕ → Bool = hangs_as_left slots s in
+    let drags : LegsHang hangs s =
+    closure_legs_hang s (parted_world (world_of s) left).row (first_round (world_of s) [] left) legs zero (left_live slots s bonds) in
+    fallen_berthed hangs s drags (after_bridges_left slots s)
+    (bridges_left_kept_by slots s (Falling hangs s) (told_falling hangs s drags) (put_falling hangs s drags) (end_falling hangs s drags)
+    (one_falling hangs s drags) (unmoved hangs s))
+    (λ at. holds_bridges_left IsLively lively_falls at slots s (all_lively s bonds at)) (left_die slots s) h
 
 -- ---- a channel leaves what it dialed
 
@@ -375,31 +456,11 @@ left_berthed slot t none h =
     given : Berthed (orig_given_up slot awaited t)
     given = by (chan_at t slot) refl
 
--- who leaves keeps of it what a channel keeps at rest, and is as dead as before
-left_holds : (Q : Chan → Type 0) → ((c : Chan) → Q c → Q (at_leisure c)) → (slot at : ℕ) (t : Switch) → Holds Q t at →
-    Holds Q (after_leaving slot t) at
-left_holds Q keeps slot at t h =
-    let awaited : Option ℕ = option_and_then awaited_by (chan_at t slot) in
-    let u : Switch = orig_given_up slot awaited t in
-    let k : Holds Q u at = given_up_kept (λ (v : Switch). Holds Q v at) (λ number v k. k) slot awaited t h in
-    changed_there (λ (v : Switch). Holds Q v at) at_leisure slot u
-    (λ c there. holds_put Q u at slot c (at_leisure c) there (keeps c) k) k
-
-left_dead : (slot at : ℕ) (t : Switch) → DeadAt at t → DeadAt at (after_leaving slot t)
-left_dead slot at t dead = by (chan_at (after_leaving slot t) at) refl
-  where
-    lifeless : Holds (λ c. is_live c ≡ false) t at
-    lifeless c is = sym (ap lives_as is) ∙ dead
-
-    by : (found : Option Chan) → chan_at (after_leaving slot t) at ≡ found → DeadAt at (after_leaving slot t)
-    by None is = ap lives_as is
-    by (Some c) is = ap lives_as is ∙ left_holds (λ d. is_live d ≡ false) (λ d dead. dead) slot at t lifeless c is
-
 -- what is left of a switch in which the legs in these slots were hung up
 record Leaving (s : Switch) (slots : List ℕ) (t : Switch) : Type 0 where
   came : Came s t
   lively : AllLively t
-  dead : (at : ℕ) → IsOneOf at slots → DeadAt at t
+  dead : (at : ℕ) → IsOneOf at slots → Holds IsDead t at
   berths : Berthed t
 
 -- none of these is one that another channel dialed who is alive
@@ -411,94 +472,66 @@ leaves_none s t slots slot legs h k among number c there waits at d is names =
     let berth : HasBerth s.origs number at = berth_now s h at number other.was other.there (other.less.names number names) in
     let dialed : IsOneOf at (legs_at s slot) =
     leg_dialed s slot number at one.was one.there (one.less.waits number waits) (leg_in s number at legs.distinct berth) in
-    dead_names t k.lively at number d is names (k.dead at (among at dialed))
+    dead_names t k.lively at number d is names (ap lives is ∙ k.dead at (among at dialed) d is)
 
 -- so a channel can leave
 leave_one : (s t : Switch) (slots : List ℕ) (slot : ℕ) → LegsStand (roles_of s) → Berthed s →
     ((at : ℕ) → IsOneOf at (legs_at s slot) → IsOneOf at slots) → Leaving s slots t → Leaving s slots (after_leaving slot t)
 leave_one s t slots slot legs h among k = record {
   came = came_left slot s t k.came;
-  lively = λ at. left_holds IsLively (λ c lively. lively) slot at t (k.lively at);
-  dead = λ at one. left_dead slot at t (k.dead at one);
+  lively = λ at. holds_left IsLively (λ c lively. lively) at slot t (k.lively at);
+  dead = λ at one. holds_left IsDead (λ c dead. dead) at slot t (k.dead at one);
   berths = left_berthed slot t (leaves_none s t slots slot legs h k among) k.berths;
 }
 
-pub both_left_berthed : (a b : ℕ) (s : Switch) → LegsStand (roles_of s) → NoneAtZero s → Bonds s → Berthed s → Berthed (both_left a b s)
-both_left_berthed a b s legs zero bonds h =
-    let slots : List ℕ = legs_at s a ++ legs_at s b in
-    let named : Members = map (λ slot. (slot, OriginatorCancel)) slots in
-    let t : Switch = after_hangups named s in
-    let first : Leaving s slots t =
-    record {
-      came = came_hung named s s (came_self s);
-      lively = λ at. holds_hung IsLively lively_falls at named s (all_lively s bonds at);
-      dead = λ at one. slots_die OriginatorCancel slots s at one;
-      berths = hung_berthed named s legs zero bonds h;
-    } in
-    (leave_one s (after_leaving a t) slots b legs h (λ at one. one_back at (legs_at s a) (legs_at s b) one)
-    (leave_one s t slots a legs h (λ at one. one_front at (legs_at s a) (legs_at s b) one) first)).berths
+-- and bid farewell
+farewell_one : (s t : Switch) (legs : List ℕ) (slot : ℕ) → LegsStand (roles_of s) → Berthed s →
+    ((at : ℕ) → IsOneOf at (legs_at s slot) → IsOneOf at legs) → Leaving s legs t → Leaving s legs (after_farewell slot t)
+farewell_one s t legs slot stand h among k =
+    queue_left_kept (Leaving s legs)
+    (λ name at u j. record { came = j.came; lively = j.lively; dead = j.dead; berths = j.berths }) (queue_at t slot) slot
+    (after_leaving slot t) (leave_one s t legs slot stand h among k)
 
--- ---- a channel leaves its bridge, too
+farewell_all : (s t : Switch) (legs slots : List ℕ) → LegsStand (roles_of s) → Berthed s →
+    ((slot at : ℕ) → IsOneOf slot slots → IsOneOf at (legs_at s slot) → IsOneOf at legs) → Leaving s legs t →
+    Leaving s legs (after_farewells slots t)
+farewell_all s t legs [] stand h among k = k
+farewell_all s t legs (slot ∷ slots) stand h among k =
+    farewell_all s (after_farewell slot t) legs slots stand h (λ other at one. among other at (inr one))
+    (farewell_one s t legs slot stand h (λ at. among slot at (inl refl)) k)
 
-module _ (slot : ℕ) (s : Switch) (legs : LegsStand (roles_of s)) (zero : NoneAtZero s) (bonds : Bonds s) (h : Berthed s) where
-  -- as its bridge has ended
-  record Parting (t : Switch) : Type 0 where
-    came : Came s t
+-- ---- channels leave all that they were in
+
+leg_among : (s : Switch) (slots : List ℕ) (slot at : ℕ) → IsOneOf slot slots → IsOneOf at (legs_at s slot) →
+    IsOneOf at (all_legs_at s slots)
+leg_among s [] slot at one leg = absurd one
+leg_among s (first ∷ slots) slot at (inl same) leg =
+    one_front at (legs_at s first) (all_legs_at s slots) (subst (λ who. IsOneOf at (legs_at s who)) same leg)
+leg_among s (first ∷ slots) slot at (inr one) leg =
+    one_back at (legs_at s first) (all_legs_at s slots) (leg_among s slots slot at one leg)
+
+pub departed_berthed : (slots : List ℕ) (s : Switch) → LegsStand (roles_of s) → NoneAtZero s → Bonds s → Berthed s →
+    Berthed (after_departures slots s)
+departed_berthed slots s legs zero bonds h =
+    (farewell_all s (after_bridges_left slots t) all slots legs h (leg_among s slots)
+    (record {
+      came = came_bridges_left slots s t (came_hung named s s (came_self s));
+      lively = λ at. holds_bridges_left IsLively lively_falls at slots t (lively at);
+      dead = λ at one. holds_bridges_left IsDead dead_falls at slots t
+          (λ c is. sym (ap lives_as is) ∙ slots_die OriginatorCancel all s at one);
+      berths =
+          bridges_left_berthed slots t (hung_legs named s legs) (hung_zero named s zero) (hung_bonds named s bonds)
+          (hung_berthed named s legs zero bonds h);
+    })).berths
+  where
+    all : List ℕ
+    all = all_legs_at s slots
+
+    named : Members
+    named = map (λ slot. (slot, OriginatorCancel)) all
+
+    t : Switch
+    t = after_hangups named s
+
     lively : AllLively t
-    stand : LegsStand (roles_of t)
-    none : NoneAtZero t
-    berths : Berthed t
-
-  parting : (found : Option Row) → Parting (after_parting found s)
-  parting found =
-      parted_kept Parting
-      (λ event t k. record { came = k.came; lively = k.lively; stand = k.stand; none = k.none; berths = k.berths })
-      (λ seat old new t there how k. record {
-        came = came_put s t seat old new there (settles_less (λ at. false) seat old new how) k.came;
-        lively = λ at. holds_put IsLively t at seat old new there (lively_settles (λ at. false) seat old new how) (k.lively at);
-        stand = settles_leg (λ at. false) seat old new t there how k.stand;
-        none = zero_put t seat (Some new) (not_zero t seat old there k.none) k.none;
-        berths = put_berthed NoSlot (roles_of t) seat old new there (settles_less (λ at. false) seat old new how).names k.berths;
-      })
-      (λ number t k. record { came = k.came; lively = k.lively; stand = k.stand; none = k.none; berths = k.berths }) found s
-      (record { came = came_self s; lively = all_lively s bonds; stand = legs; none = zero; berths = h })
-
-  dropped_leaving : (found : Option Row) → row_at s slot ≡ found →
-      Leaving s (legs_at s slot) (after_hangups (dropped_by slot s) (after_parting found s))
-  dropped_leaving found is =
-      let t : Switch = after_parting found s in
-      let k : Parting t = parting found in
-      record {
-        came = came_hung (dropped_by slot s) s t k.came;
-        lively = λ at. holds_hung IsLively lively_falls at (dropped_by slot s) t (k.lively at);
-        dead = λ at one. named_dies (dropped_by slot s) t at
-            (one_stands (cancelled at) (dropped_by slot s)
-            (one_front (cancelled at) (by_origination (world_of s) (leaver slot)) (by_peer (world_of s) (leaver slot))
-            (one_cancelled at (legs_at s slot) one)));
-        berths = hung_berthed (dropped_by slot s) t k.stand k.none (parted_bonds slot s bonds found is) k.berths;
-      }
-
-  -- the other leg of the bridge goes on or parks
-  survived_leaving : (what : After) (seat : ℕ) (t : Switch) → Leaving s (legs_at s slot) t → Leaving s (legs_at s slot) (after_survival what seat t)
-  survived_leaving what seat t k = record {
-    came = kept (Came s) (λ event u j. j)
-        (λ at old new u there how j. came_put s u at old new there (settles_less (λ any. false) at old new how) j) (λ number u j. j) k.came;
-    lively = λ at. kept (λ (u : Switch). Holds IsLively u at) (λ event u j. j)
-        (λ place old new u there how j. holds_put IsLively u at place old new there (lively_settles (λ any. false) place old new how) j)
-        (λ number u j. j) (k.lively at);
-    dead = λ at one. dead_survivals ((seat, what) ∷ []) at t (k.dead at one);
-    berths = kept Berthed (λ event u j. j)
-        (λ at old new u there how j. put_berthed NoSlot (roles_of u) at old new there (settles_less (λ any. false) at old new how).names j)
-        (λ number u j. j) k.berths;
-  }
-    where
-      kept : (P : Switch → Type 0) → ((event : Event) (u : Switch) → P u → P (with_event event u)) →
-          ((at : ℕ) (old new : Chan) (u : Switch) → chan_at u at ≡ Some old → Settles (λ any. false) at old new → P u →
-          P (with_chan at (Some new) u)) →
-          ((number : ℕ) (u : Switch) → P u → P (without_bridge number u)) → P t → P (after_survival what seat t)
-      kept P told settles ends p = survived_kept P told settles ends what seat t p
-
-  pub departed_berthed : Berthed (after_departure slot s)
-  departed_berthed =
-      (leave_one s (after_leaving_others slot s) (legs_at s slot) slot legs h (λ at one. one)
-      (others_left s slot (Leaving s (legs_at s slot)) dropped_leaving (λ one is t k. survived_leaving one.1 one.0 t k))).berths
+    lively at = holds_hung IsLively lively_falls at named s (all_lively s bonds at)

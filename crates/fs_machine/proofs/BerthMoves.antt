@@ -50,7 +50,7 @@ use Rattle.fs_machine.specs.declared.owing.Giver.TheVariants as giver
 use Rattle.fs_machine.specs.Owing.{job_number, after_job_begin, background_begun, after_job_end}
 use Rattle.fs_machine.specs.Sound.{IsLegIn}
 use Rattle.fs_machine.proofs.Kept.{Stage, Fact, Links, KeptByTouches, KeptByCalls, raced, HasWon, IsOver, KeptByJobs, KeptByDials}
-use Rattle.fs_machine.proofs.Kept.{apart_by, AreDead, goes_on_by, let_go_by, KeptByApi, KeptByCommands, KeptByMoves}
+use Rattle.fs_machine.proofs.Kept.{none_joined_by, AreDead, goes_on_by, let_go_by, KeptByApi, KeptByCommands, KeptByMoves}
 use Rattle.fs_machine.proofs.StayLemmas.{state_told_kept, moved_there, changed_there}
 use Rattle.fs_machine.proofs.CameLemmas.{CameFrom, came_self, came_hung}
 use Rattle.fs_machine.proofs.ClosureLemmas.{NoneAtZero}
@@ -66,7 +66,7 @@ use Rattle.fs_machine.proofs.BondMoves.{bonds_touches}
 use Rattle.fs_machine.proofs.AwaitedLemmas.{Awaits}
 use Rattle.fs_machine.proofs.AwaitedMoves.{free_dials}
 use Rattle.fs_machine.proofs.BerthLemmas.{BerthedBut, Berthed, berth_now, put_berthed, close_berthed, answered_berthed, without_berthed}
-use Rattle.fs_machine.proofs.BerthLemmas.{AllLively, all_lively, dead_names, hung_berthed, both_left_berthed, departed_berthed}
+use Rattle.fs_machine.proofs.BerthLemmas.{AllLively, all_lively, dead_names, hung_berthed, departed_berthed}
 use Rattle.fs_machine.proofs.BerthBirths.{begun_berthed, regrouped_berthed}
 use Rattle.fs_machine.proofs.BerthTables.{HasBerth, leg_in}
 
@@ -275,18 +275,13 @@ module _ (before : Switch) (stand : LegsStand (roles_of before)) (left : has_num
       kept.calls.hung named early.0 h.0,
       hung_berthed named s (legs (Some 0) s h.0) (zero (Some 0) s h.0) (bonds (Some 0) s h.0) h.1,
     );
-    joined = λ kind caller answerer c d {s = s} can there other one two first second was were h. (
-      kept.calls.joined kind caller answerer c d can there other one two first second (apart_by caller was (λ t k. k.0))
-          (apart_by answerer were (λ t k. k.0)) h.0,
+    joined = λ kind caller answerer c d {s = s} can there other one two first second was h. (
+      kept.calls.joined kind caller answerer c d can there other one two first second (none_joined_by was (λ t k. k.0)) h.0,
       joined_berthed NoSlot kind caller answerer s h.1,
     );
-    leaves = λ one other {s = s} first second early h. (
-      kept.calls.leaves one other first second early.0 h.0,
-      both_left_berthed one other s (legs (Some 0) s h.0) (zero (Some 0) s h.0) (bonds (Some 0) s h.0) h.1,
-    );
-    departs = λ slot {s = s} early h. (
-      kept.calls.departs slot early.0 h.0,
-      departed_berthed slot s (legs (Some 0) s h.0) (zero (Some 0) s h.0) (bonds (Some 0) s h.0) h.1,
+    departs = λ slots {s = s} early h. (
+      kept.calls.departs slots early.0 h.0,
+      departed_berthed slots s (legs (Some 0) s h.0) (zero (Some 0) s h.0) (bonds (Some 0) s h.0) h.1,
     );
     more = λ h. (kept.calls.more h.0, h.1);
     gone = λ slot old {s = s} there dead early h. (

@@ -84,7 +84,7 @@ survivor_part named s one h is =
       out.ended,
     )
 
-survivors_held : (named : Members) (s : Switch) (one : ℕ × After) → Bonds s →
+pub survivors_held : (named : Members) (s : Switch) (one : ℕ × After) → Bonds s →
     IsOneOf one (closure_of (world_of s) (living_of s named)).survivors → IsHeld s one.0
 survivors_held named s one h is = let part = survivor_part named s one h is in leg_held s one.0 part.0 h part.1
 
@@ -457,6 +457,11 @@ module _ (survivors : List (ℕ × After)) (bridges : BridgeRows) where
 
 -- ---- all of it
 
+-- whatever stands in a slot is no leg of an origination, and part of no bridge
+pub record StandsAlone (s : Switch) (slot : ℕ) : Type 0 where
+  pub lone : LoneIn s.channels slot
+  pub none : bridge_at s slot ≡ None
+
 -- whoever hangs up, or outlives a bridge, is part of none behind the ends
 module _ (named : Members) (s : Switch) (h : Bonds s) where
   e : Ends
@@ -495,36 +500,69 @@ module _ (named : Members) (s : Switch) (h : Bonds s) where
           let same : row ≡ part.0 = same_Some row part.0 (sym (all.ending.less one.0 row is) ∙ part.1) in
           absurd (out_of_ended one.0 row (subst (HasEnded named s) (sym same) part.2) is)
 
-  closure_ended : AllEnd e.survivors (after_ends e.ended s).bridges (after_closure (closure_of (world_of s) (living_of s named)) s)
+  -- whoever outlives one, in whatever order, is among these, or stands alone
+  abbrev AreOutliving : List (ℕ × After) → Type 0
+  AreOutliving later =
+      (one : ℕ × After) → IsOneOf one later →
+      IsOneOf one (closure_of (world_of s) (living_of s named)).survivors ⊎ StandsAlone s one.0
+
+  lone_before : (one : ℕ × After) → IsOneOf one e.survivors ⊎ StandsAlone s one.0 → LoneIn s.channels one.0
   unfolding e
-  closure_ended =
+  lone_before one (inl among) = (survivors_held named s one h among).lone
+  lone_before one (inr alone) = alone.lone
+
+  alone_out : (one : ℕ × After) → IsOneOf one e.survivors ⊎ StandsAlone s one.0 → bridge_at (after_ends e.ended s) one.0 ≡ None
+  unfolding e
+  alone_out one (inl among) = survivor_out one among
+  alone_out one (inr alone) = by (bridge_at (after_ends e.ended s) one.0) refl
+    where
+      by : (found : Option Row) → bridge_at (after_ends e.ended s) one.0 ≡ found → found ≡ None
+      by None is = refl
+      by (Some row) is = absurd (none-some row (sym alone.none ∙ all.ending.less one.0 row is))
+
+  closure_ended : (later : List (ℕ × After)) → AreOutliving later →
+      AllEnd later (after_ends e.ended s).bridges (after_survivals later (after_members e.ended e.members (after_ends e.ended s)))
+  unfolding e
+  closure_ended later outlive =
       let u : Switch = after_ends e.ended s in
       let v : Switch = after_members e.ended e.members u in
-      let lone : AreLone e.survivors u =
-      ends_lone e.survivors e.ended s (λ one among. (survivors_held named s one h among).lone) in
-      let first : AllEnd e.survivors u.bridges u = record { bonds = all.ending.bonds; same = refl; lone = lone } in
-      let second : AllEnd e.survivors u.bridges v =
-      members_ended e.survivors u.bridges e.ended e.members u (λ m one. member_out m one) first in
-      survivals_ended e.survivors u.bridges e.survivors v (λ one among. (among, survivor_out one among)) second
+      let lone : AreLone later u = ends_lone later e.ended s (λ one among. lone_before one (outlive one among)) in
+      let first : AllEnd later u.bridges u = record { bonds = all.ending.bonds; same = refl; lone = lone } in
+      let second : AllEnd later u.bridges v = members_ended later u.bridges e.ended e.members u (λ m one. member_out m one) first in
+      survivals_ended later u.bridges later v (λ one among. (among, alone_out one (outlive one among))) second
+
+  -- the switch behind all that, where these outlive a bridge
+  abbrev pub closed_with : List (ℕ × After) → Switch
+  closed_with later =
+      after_closure (record (closure_of (world_of s) (living_of s named)) { survivors = later }) s
+
+  pub closure_bonds : (later : List (ℕ × After)) → AreOutliving later → Ending s (closed_with later)
+  unfolding e
+  closure_bonds later outlive =
+      let k : AllEnd later (after_ends e.ended s).bridges (closed_with later) = closure_ended later outlive in
+      record { bonds = k.bonds; less = λ slot row is. all.ending.less slot row (ap (part_of slot) (sym k.same) ∙ is) }
 
   -- a bridge that stood has ended, or stands
-  closure_part : (slot : ℕ) (row : Row) → bridge_at s slot ≡ Some row →
-      HasEnded named s row ⊎ (bridge_at (after_closure (closure_of (world_of s) (living_of s named)) s) slot ≡ Some row)
+  pub closure_part : (later : List (ℕ × After)) → AreOutliving later → (slot : ℕ) (row : Row) → bridge_at s slot ≡ Some row →
+      HasEnded named s row ⊎ (bridge_at (closed_with later) slot ≡ Some row)
   unfolding e
-  closure_part slot row part =
+  closure_part later outlive slot row part =
       by (ends_part s h.rows slot row part e.ended s (λ x one. end_stands named s x one) (record { bonds = h; less = λ at r is. is }) part)
     where
       by : ((x : Ended) × IsOneOf x (closure_of (world_of s) (living_of s named)).ended × (x.0 ≡ row))
           ⊎ (bridge_at (after_ends (closure_of (world_of s) (living_of s named)).ended s) slot ≡ Some row) →
-          HasEnded named s row ⊎ (bridge_at (after_closure (closure_of (world_of s) (living_of s named)) s) slot ≡ Some row)
+          HasEnded named s row ⊎ (bridge_at (closed_with later) slot ≡ Some row)
       by (inl ended) = inl (record { end = ended.0; one = ended.1; is = ended.2 })
-      by (inr still) = inr (ap (part_of slot) closure_ended.same ∙ still)
+      by (inr still) = inr (ap (part_of slot) (closure_ended later outlive).same ∙ still)
 
+-- where nobody else outlives a bridge
 pub hung_bonds : (named : Members) (s : Switch) → Bonds s → Bonds (after_hangups named s)
 unfolding after_hangups
-hung_bonds named s h = (closure_ended named s h).bonds
+hung_bonds named s h =
+    (closure_bonds named s h (closure_of (world_of s) (living_of s named)).survivors (λ one among. inl among)).bonds
 
 pub hung_part : (named : Members) (s : Switch) → Bonds s → (slot : ℕ) (row : Row) → bridge_at s slot ≡ Some row →
     HasEnded named s row ⊎ (bridge_at (after_hangups named s) slot ≡ Some row)
 unfolding after_hangups
-hung_part named s h slot row part = closure_part named s h slot row part
+hung_part named s h slot row part =
+    closure_part named s h (closure_of (world_of s) (living_of s named)).survivors (λ one among. inl among) slot row part

@@ -1,71 +1,40 @@
--- Bridges stand behind a channel that leaves just where it was no leg of them, and none of their legs hung up.
-use Rattle.std.proofs.Common.{◌≡◌, ◌≢◌, ℕ, Bool, true, false, if◌then◌else◌, Option, None, Some, is_some, ◌⊎◌, inl, inr, refl, sym, ap}
-use Rattle.std.proofs.Common.{subst, ◌∙◌, option_map, option_and_then}
+-- Bridges stand behind those who leave just where nobody who leaves was a leg of them, and none of their legs hung up.
+use Rattle.std.proofs.Common.{◌≡◌, ℕ, Bool, true, false, if◌then◌else◌, List, [], ◌∷◌, map, filter, Option, None, Some, is_some}
+use Rattle.std.proofs.Common.{◌⊎◌, inl, inr, refl, sym, ap, subst, ◌∙◌, option_and_then}
 use Rattle.std.proofs.lemmas.Bool.{false≢true}
-use Rattle.std.proofs.lemmas.Option.{none-some, same_Some}
-use Rattle.fs_text.specs.declared.states.State.TheVariants.{CsPark}
+use Rattle.std.proofs.lemmas.Option.{same_Some}
 use Rattle.fs_text.specs.declared.causes.Cause.{Cause}
-use Rattle.fs_text.specs.declared.causes.Cause.TheVariants.{NormalClearing}
-use Rattle.fs_text.specs.declared.event_names.EventName.TheVariants.{ChannelExecuteComplete}
-use Rattle.fs_vars.specs.Variables.{Variables}
+use Rattle.fs_text.specs.declared.causes.Cause.TheVariants.{NormalClearing, OriginatorCancel}
 use Rattle.fs_bridge.specs.declared.after.After.{After}
-use Rattle.fs_bridge.specs.declared.after.After.TheVariants.{GoOn, Hangup, Park}
 use Rattle.fs_bridge.specs.declared.row.Row.{Row}
-use Rattle.fs_bridge.specs.After.{after_bridge}
-use Rattle.fs_bridge.specs.Closure.{Members, peer_in, left_in}
+use Rattle.fs_bridge.specs.Closure.{peer_in}
+use Rattle.fs_bridge.specs.Hangups.{IsOneOf}
+use Rattle.fs_bridge.specs.Leaving.{with_survivors}
+use Rattle.fs_bridge.specs.Orders.{has_slot}
 use Rattle.fs_chan.specs.declared.chan.Chan.{Chan}
 use Rattle.fs_chan.specs.declared.peer.Peer.{Peer}
 use Rattle.fs_chan.specs.Bridging.{awaited_by, unbridged, at_leisure}
-use Rattle.fs_chan.specs.Changes.{is_live, at_rest, parked}
-use Rattle.fs_seats.specs.Seats.{held_in}
-use Rattle.fs_state.specs.declared.event.Event.{Event}
-use Rattle.fs_state.specs.Switch.{Switch, chan_at, with_chan, bridge_at, without_bridge, with_event}
-use Rattle.fs_state.specs.Moves.{application_event, running_at, with_changed_chan, after_move, orig_given_up}
-use Rattle.fs_state.specs.Hangups.{lives_at, has_peer, world_of, row_at, after_end, after_outliving, after_survival, after_hangups}
-use Rattle.fs_state.specs.Leaving.{leaver, dropped_by, left_behind, after_parting, after_leaving_others}
-use Rattle.fs_machine.specs.Joining.{after_leaving}
-use Rattle.fs_machine.specs.Leaving.{after_departure}
-use Rattle.fs_machine.proofs.StayLemmas.{park_lives, orig_changed_channels, moved_there, changed_there}
-use Rattle.fs_machine.proofs.HangLemmas.{dies, Falls, Cut, Unbridged, Rests, Parks, given_up_kept, hangups_kept}
-use Rattle.fs_machine.proofs.HangLemmas.{Settles, Freed, Resumes, Halts}
-use Rattle.fs_machine.proofs.ClosureLemmas.{hangs_up}
+use Rattle.fs_seats.specs.Seats.{with_held}
+use Rattle.fs_state.specs.Switch.{Switch, chan_at, bridge_at, without_bridge}
+use Rattle.fs_state.specs.Moves.{with_changed_chan, orig_given_up}
+use Rattle.fs_state.specs.Hangups.{lives, lives_at, has_peer, row_at, after_end}
+use Rattle.fs_state.specs.Leaving.{all_legs_at, after_cancelling, after_parting, living_among, after_bridges_left, after_leaving_others}
+use Rattle.fs_state.specs.Queues.{queue_at}
+use Rattle.fs_machine.specs.Joining.{after_leaving, after_farewell, after_farewells, after_departures}
+use Rattle.fs_machine.proofs.AbortLemmas.{queue_left_kept}
+use Rattle.fs_machine.proofs.StayLemmas.{changed_there}
+use Rattle.fs_machine.proofs.FreeLemmas.{Holds, holds_put}
+use Rattle.fs_machine.proofs.HangLemmas.{given_up_kept}
 use Rattle.fs_machine.proofs.JoinLemmas.{rest_dials}
-use Rattle.fs_machine.proofs.LeaveLemmas.{others_left, departed_kept}
-use Rattle.fs_machine.proofs.LegLemmas.{Channels}
-use Rattle.fs_machine.proofs.BondRows.{leg_part, peer_leg}
-use Rattle.fs_machine.proofs.BondLemmas.{row_seen}
-use Rattle.fs_machine.proofs.BondTables.{Bonds, Stood, stood}
-use Rattle.fs_machine.proofs.BondHangups.{IsHeld, leg_held, Ending, end_bonds, end_gone, peerless_apt, nothing_apt, hung_bonds}
-use Rattle.fs_machine.proofs.BondChanges.{same_put}
+use Rattle.fs_machine.proofs.LeaveLemmas.{farewell_kept}
+use Rattle.fs_machine.proofs.BondLemmas.{HasEnded}
+use Rattle.fs_machine.proofs.BondTables.{NamesPeer, Bonds, NoSlot, opened, closed, lone_put}
+use Rattle.fs_machine.proofs.BondHangups.{IsHeld, leg_held, StandsAlone, Ending, end_bonds, closure_bonds, closure_part, peerless_apt}
+use Rattle.fs_machine.proofs.BondHangups.{hung_bonds}
+use Rattle.fs_machine.proofs.PartingLemmas.{parted_rows, parted_state, others_left, left_named, closure_at, partings_kept, parts_its}
+use Rattle.fs_machine.proofs.PartingLemmas.{gone_as_left, stood_before, IsOtherLeg, other_leg, survivors_as_left, bridges_left_as}
 
 -- ---- what holds of the channel in a slot
-
--- it holds of the one that stands there, if one does
-abbrev pub Holds : (Chan → Type 0) → Switch → ℕ → Type 0
-Holds Q t slot = (c : Chan) → chan_at t slot ≡ Some c → Q c
-
--- and stays where it holds of whatever a channel becomes of which it held
-pub holds_put : (Q : Chan → Type 0) (t : Switch) (slot seat : ℕ) (old new : Chan) → chan_at t seat ≡ Some old → (Q old → Q new) →
-    Holds Q t slot → Holds Q (with_chan seat (Some new) t) slot
-holds_put Q t slot seat old new there keeps h c is = by (stood t.channels seat old new slot c there is)
-  where
-    by : Stood t.channels seat old new slot c → Q c
-    by was = how was.how
-      where
-        how : ((slot ≡ seat) × (was.was ≡ old) × (c ≡ new)) ⊎ ((slot ≢ seat) × (c ≡ was.was)) → Q c
-        how (inl e) = subst Q (sym e.2) (keeps (subst Q e.1 (h was.was was.there)))
-        how (inr e) = subst Q (sym e.1) (h was.was was.there)
-
-pub holds_hung : (Q : Chan → Type 0) →
-    ((hangs : ℕ → Bool) (seat : ℕ) (old new : Chan) → Falls hangs seat old new → Q old → Q new) →
-    (slot : ℕ) (named : Members) (t : Switch) → Holds Q t slot → Holds Q (after_hangups named t) slot
-holds_hung Q keeps slot named t h =
-    hangups_kept named t (λ (u : Switch). Holds Q u slot) (λ event u k. k)
-    (λ seat old new u there falls k. holds_put Q u slot seat old new there (keeps (λ at. hangs_up at named t) seat old new falls) k)
-    (λ number u k. k)
-    (λ cause seat leg number u k.
-    subst (λ (all : Channels). (c : Chan) → held_in all slot ≡ Some c → Q c) (sym (orig_changed_channels (dies cause seat leg) number u)) k)
-    (λ number u k. k) h
 
 pub holds_freed : (Q : Chan → Type 0) (cause : Cause) → ((c : Chan) → Q c → Q (unbridged cause c)) → (slot : ℕ) (row : Row) (s : Switch) →
     Holds Q s slot → Holds Q (after_end row cause s) slot
@@ -77,6 +46,18 @@ holds_freed Q cause keeps slot row s h =
     one seat t k =
         changed_there (λ (u : Switch). Holds Q u slot) (unbridged cause) seat t
         (λ c is. holds_put Q t slot seat c (unbridged cause c) is (keeps c) k) k
+
+-- what is one of some, and passes a test, is one of those that do
+passes : {X : Type 0} (test : X → Bool) (x : X) (xs : List X) → IsOneOf x xs → test x ≡ true → IsOneOf x (filter test xs)
+passes test x [] one is = absurd one
+passes test x (y ∷ ys) one is = by (test y) refl one (λ later. passes test x ys later is)
+  where
+    by : (b : Bool) → test y ≡ b → (x ≡ y) ⊎ IsOneOf x ys → (IsOneOf x ys → IsOneOf x (filter test ys)) →
+        IsOneOf x (if b then y ∷ filter test ys else filter test ys)
+    by true e (inl same) rest = inl same
+    by true e (inr later) rest = inr (rest later)
+    by false e (inl same) rest = absurd (false≢true (sym (ap test same ∙ e) ∙ is))
+    by false e (inr later) rest = rest later
 
 -- ---- who is off
 
@@ -90,200 +71,184 @@ pub record IsOff (c : Chan) : Type 0 where
   pub lone : c.leg_of ≡ None
   pub dials : awaited_by c ≡ None
 
-peerless_falls : (hangs : ℕ → Bool) (seat : ℕ) (old new : Chan) → Falls hangs seat old new → IsPeerless old → IsPeerless new
-peerless_falls hangs seat old new (Cut cause hung) h = refl
-peerless_falls hangs seat old new (Unbridged cause) h = refl
-peerless_falls hangs seat old new (Rests outlives live) h = h
-peerless_falls hangs seat old new (Parks outlives live) h = h
-
-rest_off : (c : Chan) → IsOff c → IsOff (at_rest c)
-rest_off c h = record { peerless = h.peerless; lone = h.lone; dials = rest_dials c.socket c.state }
-
-park_off : (c : Chan) → IsOff c → IsOff (parked c)
-park_off c h = record { peerless = h.peerless; lone = h.lone; dials = rest_dials c.socket CsPark }
-
-off_falls : (hangs : ℕ → Bool) (seat : ℕ) (old new : Chan) → Falls hangs seat old new → IsOff old → IsOff new
-off_falls hangs seat old new (Cut cause hung) h = record { peerless = refl; lone = refl; dials = refl }
-off_falls hangs seat old new (Unbridged cause) h = record { peerless = refl; lone = h.lone; dials = h.dials }
-off_falls hangs seat old new (Rests outlives live) h = rest_off old h
-off_falls hangs seat old new (Parks outlives live) h = park_off old h
-
 no_peer : (peer : Option Peer) → (is_some peer ≡ true → ⊥) → peer ≡ None
 no_peer None none = refl
 no_peer (Some peer) none = absurd (none refl)
 
--- ---- a bridge is left
+-- whoever is part of no bridge names no peer
+pub apart_peerless : (s : Switch) (slot : ℕ) → bridge_at s slot ≡ None → Bonds s → Holds IsPeerless s slot
+apart_peerless s slot none h c there =
+    no_peer c.peer (λ some. false≢true (sym (ap is_some none) ∙ h.back slot c there some))
 
-module _ (slot : ℕ) (row : Row) (s : Switch) (h : Bonds s) (part : bridge_at s slot ≡ Some row) where
-  begun : Ending s s
-  begun = record { bonds = h; less = λ at r is. is }
+-- ---- bridges are left
 
-  over : Ending s (after_end row NormalClearing s)
-  over = end_bonds s s h.rows row NormalClearing slot part begun
-
-  leg_out : (at : ℕ) → bridge_at s at ≡ Some row → bridge_at (after_end row NormalClearing s) at ≡ None
-  leg_out at there = by (bridge_at (after_end row NormalClearing s) at) refl
+module _ (slots : List ℕ) (s : Switch) (h : Bonds s) where
+  -- so the bridges of those that stand behind it are as they were
+  pub parted_bonds : Bonds (parted_state slots s)
+  parted_bonds = partings_kept (λ (t : Switch). Bonds t) parts slots s h.rows h
     where
-      by : (found : Option Row) → bridge_at (after_end row NormalClearing s) at ≡ found → found ≡ None
+      parts : (slot : ℕ) (row : Row) (t : Switch) → bridge_at t slot ≡ Some row → Bonds t → Bonds (after_parting (row, NormalClearing) t)
+      parts slot row t part k = (end_bonds t t k.rows row NormalClearing slot part (record { bonds = k; less = λ at r is. is })).bonds
+
+  pub holds_parted : (Q : Chan → Type 0) → ((c : Chan) → Q c → Q (unbridged NormalClearing c)) → (slot : ℕ) → Holds Q s slot →
+      Holds Q (parted_state slots s) slot
+  holds_parted Q keeps slot holds =
+      partings_kept (λ (t : Switch). Holds Q t slot) (λ at row t part k. holds_freed Q NormalClearing keeps slot row t k) slots s h.rows holds
+
+  -- whoever was part of one that is left is part of none
+  parted_none : (slot : ℕ) (row : Row) → bridge_at s slot ≡ Some row → IsOneOf (row, NormalClearing) (parted_rows slots s) →
+      bridge_at (parted_state slots s) slot ≡ None
+  parted_none slot row part parted = by (bridge_at (parted_state slots s) slot) refl
+    where
+      by : (found : Option Row) → bridge_at (parted_state slots s) slot ≡ found → found ≡ None
       by None is = refl
       by (Some r) is =
-          let same : r ≡ row = same_Some r row (sym (over.less at r is) ∙ there) in
-          absurd (end_gone s s h.rows row NormalClearing slot part begun at (is ∙ ap (λ (x : Row). Some x) same))
+          let same : r ≡ row = same_Some r row (sym (stood_before slots s slot r h.rows is) ∙ part) in
+          absurd (gone_as_left slots s row slot h.rows parted (is ∙ ap (λ (x : Row). Some x) same))
 
-  leg_off : (at : ℕ) → bridge_at s at ≡ Some row → Holds IsOff (after_end row NormalClearing s) at
-  leg_off at there c is =
-      let held : IsHeld s at = leg_held s at row h there in
+  parted_off : (slot : ℕ) (row : Row) → bridge_at s slot ≡ Some row → IsOneOf (row, NormalClearing) (parted_rows slots s) →
+      Holds IsOff (parted_state slots s) slot
+  parted_off slot row part parted c there =
+      let held : IsHeld s slot = leg_held s slot row h part in
       record {
-        peerless = no_peer c.peer (λ some. false≢true (sym (ap is_some (leg_out at there)) ∙ over.bonds.back at c is some));
-        lone = holds_freed (λ d. d.leg_of ≡ None) NormalClearing (λ d none. none) at row s held.lone c is;
-        dials = holds_freed (λ d. awaited_by d ≡ None) NormalClearing (λ d none. none) at row s held.dials c is;
+        peerless = apart_peerless (parted_state slots s) slot (parted_none slot row part parted) parted_bonds c there;
+        lone = holds_parted (λ d. d.leg_of ≡ None) (λ d none. none) slot held.lone c there;
+        dials = holds_parted (λ d. awaited_by d ≡ None) (λ d none. none) slot held.dials c there;
       }
 
--- ---- a channel leaves
+  -- whoever is part of a bridge lives and names a peer
+  part_lives : (slot : ℕ) (row : Row) → bridge_at s slot ≡ Some row → lives_at s slot ≡ true
+  part_lives slot row part =
+      let names : NamesPeer s.channels slot (peer_in row slot) = h.legs slot row part in
+      ap lives names.there ∙ names.live
 
--- those who were in a bridge, or would be
-record HasParted (before : Switch) (slot : ℕ) (t : Switch) : Type 0 where
-  bonds : Bonds t
-  peerless : Holds IsPeerless t slot
-  other : (one : ℕ × After) → left_behind slot before ≡ Some one → Holds IsOff t one.0
+  part_seen : (slot : ℕ) (row : Row) → bridge_at s slot ≡ Some row → row_at s slot ≡ Some row
+  part_seen slot row part =
+      let names : NamesPeer s.channels slot (peer_in row slot) = h.legs slot row part in
+      ap (λ test. if test then bridge_at s slot else None) (ap has_peer names.there ∙ ap is_some names.names) ∙ part
 
-module _ (slot : ℕ) (s : Switch) (h : Bonds s) where
-  -- whoever names a peer is in a bridge
-  alone : row_at s slot ≡ None → Holds IsPeerless s slot
-  alone is c there =
-      no_peer c.peer
-      (λ some.
-      let peer : has_peer (chan_at s slot) ≡ true = ap has_peer there ∙ some in
-      let none : bridge_at s slot ≡ None = sym (ap (λ test. if test then bridge_at s slot else None) peer) ∙ is in
-      false≢true (sym (ap is_some none) ∙ h.back slot c there some))
+  -- those who leave
+  pub left_off : (slot : ℕ) (row : Row) → IsOneOf slot (living_among s slots) → bridge_at s slot ≡ Some row →
+      Holds IsOff (parted_state slots s) slot
+  left_off slot row among part =
+      parted_off slot row part (parts_its slots s slot row h.rows among (part_seen slot row part))
 
-  left_peer : (row : Row) (one : ℕ × After) (vars : Option Variables) →
-      option_map (λ vars. (peer_in row slot, after_bridge row (peer_in row slot) vars NormalClearing)) vars ≡ Some one →
-      peer_in row slot ≡ one.0
-  left_peer row one None e = absurd (none-some one e)
-  left_peer row one (Some vars) e =
-      ap (λ (l : ℕ × After). l.0) (same_Some (peer_in row slot, after_bridge row (peer_in row slot) vars NormalClearing) one e)
+  -- and those who are left
+  other_leg_off : (one : ℕ × After) → IsOtherLeg slots s one.0 → Holds IsOff (parted_state slots s) one.0
+  other_leg_off one other = parted_off one.0 other.row other.part other.parted
 
-  has_parted : (found : Option Row) → row_at s slot ≡ found → HasParted s slot (after_parting found s)
-  has_parted None is = record {
-    bonds = h;
-    peerless = alone is;
-    other = λ one told.
-        absurd (none-some one (sym (ap (option_and_then (left_in (world_of s) (leaver slot))) is) ∙ told));
-  }
-  has_parted (Some row) is =
-      let part : bridge_at s slot ≡ Some row = row_seen s slot row is in
-      let peer : bridge_at s (peer_in row slot) ≡ Some row = leg_part s.bridges slot (peer_in row slot) row h.rows part (peer_leg row slot) in
+  pub other_off : (one : ℕ × After) → IsOneOf one (others_left slots s) → Holds IsOff (parted_state slots s) one.0
+  other_off one among = other_leg_off one (other_leg slots s one h.rows among)
+
+  -- these stand alone
+  pub other_alone : (one : ℕ × After) → IsOneOf one (others_left slots s) → StandsAlone (parted_state slots s) one.0
+  other_alone one among =
+      let other : IsOtherLeg slots s one.0 = other_leg slots s one h.rows among in
       record {
-        bonds = (over slot row s h part).bonds;
-        peerless = λ c there. (leg_off slot row s h part slot part c there).peerless;
-        other = λ one told.
-            subst (λ (at : ℕ). Holds IsOff (after_end row NormalClearing s) at)
-            (left_peer row one ((world_of s).vars (peer_in row slot))
-            (sym (ap (option_and_then (left_in (world_of s) (leaver slot))) is) ∙ told))
-            (leg_off slot row s h part (peer_in row slot) peer);
+        lone = λ c there. (other_leg_off one other c there).lone;
+        none = parted_none one.0 other.row other.part other.parted;
       }
 
-  -- so the bridges of those that stand behind it are as they were
-  pub parted_bonds : (found : Option Row) → row_at s slot ≡ found → Bonds (after_parting found s)
-  parted_bonds found is = (has_parted found is).bonds
+  -- ---- and what comes of that
 
-  pub other_off : (found : Option Row) → row_at s slot ≡ found → (one : ℕ × After) → left_behind slot s ≡ Some one →
-      Holds IsOff (after_parting found s) one.0
-  other_off found is = (has_parted found is).other
-
-  hung_parted : (named : Members) (t : Switch) → HasParted s slot t → HasParted s slot (after_hangups named t)
-  hung_parted named t k = record {
-    bonds = hung_bonds named t k.bonds;
-    peerless = holds_hung IsPeerless peerless_falls slot named t k.peerless;
-    other = λ one told. holds_hung IsOff off_falls one.0 named t (k.other one told);
-  }
-
-  told_parted : (event : Event) (t : Switch) → HasParted s slot t → HasParted s slot (with_event event t)
-  told_parted event t k = record { bonds = k.bonds; peerless = k.peerless; other = k.other }
-
-  -- the other leg comes to rest, or parks
-  put_parted : (at : ℕ) (c d : Chan) (t : Switch) → chan_at t at ≡ Some c → IsOff c → IsOff d → d.uuid ≡ c.uuid →
-      (is_live c ≡ true → is_live d ≡ true) → HasParted s slot t → HasParted s slot (with_chan at (Some d) t)
-  put_parted at c d t there was off uuid live k = record {
-    bonds = same_put t.channels t.bridges at c d there (nothing_apt d off.peerless off.lone) uuid (off.peerless ∙ sym was.peerless) live
-        k.bonds;
-    peerless = holds_put IsPeerless t slot at c d there (λ none. off.peerless) k.peerless;
-    other = λ one told. holds_put IsOff t one.0 at c d there (λ other. off) (k.other one told);
-  }
-
-  outlives_parted : (one : ℕ × After) → left_behind slot s ≡ Some one → (t : Switch) → HasParted s slot t →
-      HasParted s slot (after_survival one.1 one.0 t)
-  outlives_parted one told t k = by (lives_at t one.0)
+  outlive : (one : ℕ × After) → IsOneOf one (with_survivors (others_left slots s) (closure_at slots s)).survivors →
+      IsOneOf one (closure_at slots s).survivors ⊎ StandsAlone (parted_state slots s) one.0
+  outlive one is = by (survivors_as_left slots s (closure_at slots s) one is)
     where
-      on : (what : After) → HasParted s slot (after_outliving what one.0 t)
-      on GoOn =
-          told_parted (application_event ChannelExecuteComplete (running_at one.0 t) one.0) (after_move at_rest one.0 t)
-          (moved_there (HasParted s slot) told_parted at_rest one.0 t
-          (λ c is.
-          let off : IsOff c = k.other one told c is in
-          put_parted one.0 c (at_rest c) t is off (rest_off c off) refl (λ live. live) k) k)
-      on Park =
-          moved_there (HasParted s slot) told_parted parked one.0 t
-          (λ c is.
-          let off : IsOff c = k.other one told c is in
-          put_parted one.0 c (parked c) t is off (park_off c off) refl (λ live. park_lives) k) k
-      on (Hangup cause) = k
+      by : IsOneOf one (closure_at slots s).survivors ⊎ (IsOneOf one (others_left slots s) × (has_slot one.0 (closure_at slots s).members ≡ false)) →
+          IsOneOf one (closure_at slots s).survivors ⊎ StandsAlone (parted_state slots s) one.0
+      by (inl old) = inl old
+      by (inr new) = inr (other_alone one new.0)
 
-      by : (live : Bool) → HasParted s slot (if live then after_outliving one.1 one.0 t else t)
-      by true = on one.1
-      by false = k
+  ending : Ending (parted_state slots s) (after_bridges_left slots s)
+  ending =
+      subst (λ (t : Switch). Ending (parted_state slots s) t) (sym (bridges_left_as slots s h))
+      (closure_bonds (left_named slots s) (parted_state slots s) parted_bonds
+      (with_survivors (others_left slots s) (closure_at slots s)).survivors outlive)
 
-  others_parted : HasParted s slot (after_leaving_others slot s)
-  others_parted =
-      others_left s slot (HasParted s slot)
-      (λ found is. hung_parted (dropped_by slot s) (after_parting found s) (has_parted found is)) outlives_parted
+  pub bridges_left_bonds : Bonds (after_bridges_left slots s)
+  bridges_left_bonds = ending.bonds
 
--- a channel that names no peer comes to rest
-peerless_bonds : (slot : ℕ) (s : Switch) → Holds IsPeerless s slot → Bonds s → Bonds (after_leaving slot s)
-peerless_bonds slot s peerless h =
-    let awaited : Option ℕ = option_and_then awaited_by (chan_at s slot) in
-    let t : Switch = orig_given_up slot awaited s in
-    let k : Bonds t × Holds IsPeerless t slot =
-    given_up_kept (λ (u : Switch). Bonds u × Holds IsPeerless u slot) (λ number u k. k) slot awaited s (h, peerless) in
+  -- a bridge that was not left has ended by that, or stands
+  pub bridges_left_part : (slot : ℕ) (row : Row) → bridge_at (parted_state slots s) slot ≡ Some row →
+      HasEnded (left_named slots s) (parted_state slots s) row ⊎ (bridge_at (after_bridges_left slots s) slot ≡ Some row)
+  bridges_left_part slot row part =
+      subst
+      (λ (t : Switch). HasEnded (left_named slots s) (parted_state slots s) row ⊎ (bridge_at t slot ≡ Some row))
+      (sym (bridges_left_as slots s h))
+      (closure_part (left_named slots s) (parted_state slots s) parted_bonds
+      (with_survivors (others_left slots s) (closure_at slots s)).survivors outlive slot row part)
+
+  -- whoever was to leave is part of none: whoever was part of one lived
+  pub left_apart : (slot : ℕ) → IsOneOf slot slots → bridge_at (after_bridges_left slots s) slot ≡ None
+  left_apart slot one = by (bridge_at (after_bridges_left slots s) slot) refl
+    where
+      among : (row : Row) → bridge_at s slot ≡ Some row → IsOneOf slot (living_among s slots)
+      among row was = passes (lives_at s) slot slots one (part_lives slot row was)
+
+      by : (found : Option Row) → bridge_at (after_bridges_left slots s) slot ≡ found → found ≡ None
+      by None is = refl
+      by (Some row) is =
+          let still : bridge_at (parted_state slots s) slot ≡ Some row = ending.less slot row is in
+          let was : bridge_at s slot ≡ Some row = stood_before slots s slot row h.rows still in
+          absurd
+          (gone_as_left slots s row slot h.rows (parts_its slots s slot row h.rows (among row was) (part_seen slot row was)) still)
+
+  -- and names no peer
+  pub left_peerless : (slot : ℕ) → IsOneOf slot slots → Holds IsPeerless (after_bridges_left slots s) slot
+  left_peerless slot one = apart_peerless (after_bridges_left slots s) slot (left_apart slot one) bridges_left_bonds
+
+-- ---- farewells
+
+given_apart : (at slot : ℕ) (awaited : Option ℕ) (s : Switch) → bridge_at s at ≡ None → bridge_at (orig_given_up slot awaited s) at ≡ None
+given_apart at slot awaited s none = given_up_kept (λ (t : Switch). bridge_at t at ≡ None) (λ number t k. k) slot awaited s none
+
+-- a channel leaves what it was in, and is part of no bridge
+pub left_bonds : (slot : ℕ) (s : Switch) → bridge_at s slot ≡ None → Bonds s → Bonds (after_leaving slot s)
+left_bonds slot s none h =
     changed_there (λ (u : Switch). Bonds u) at_leisure slot t
-    (λ c is. same_put t.channels t.bridges slot c (at_leisure c) is
-    (peerless_apt c (at_leisure c) (k.1 c is) refl refl refl (λ none. rest_dials None c.state) (k.0.apt slot c is)) refl refl
-    (λ live. live) k.0) k.0
+    (λ c is.
+    closed (with_held t.channels slot (Some (at_leisure c))) t.bridges
+    (lone_put NoSlot NoSlot t.channels t.bridges slot c (at_leisure c) is apart
+    (peerless_apt c (at_leisure c) (apart_peerless t slot apart k c is) refl refl refl (λ none. rest_dials None c.state) (k.apt slot c is))
+    (apart_peerless t slot apart k c is) (λ at no. absurd no) (λ at no. absurd no) (opened t.channels t.bridges k))) k
+  where
+    t : Switch
+    t = orig_given_up slot (option_and_then awaited_by (chan_at s slot)) s
 
-pub departed_bonds : (slot : ℕ) (s : Switch) → Bonds s → Bonds (after_departure slot s)
-departed_bonds slot s h =
-    let k : HasParted s slot (after_leaving_others slot s) = others_parted slot s h in
-    peerless_bonds slot (after_leaving_others slot s) k.peerless k.bonds
+    k : Bonds t
+    k = given_up_kept (λ (u : Switch). Bonds u) (λ number u k. k) slot (option_and_then awaited_by (chan_at s slot)) s h
 
--- ---- a leg of an origination
+    apart : bridge_at t slot ≡ None
+    apart = given_apart slot slot (option_and_then awaited_by (chan_at s slot)) s none
 
--- a channel is none
-abbrev pub IsLone : Chan → Type 0
-IsLone c = c.leg_of ≡ None
+pub farewell_bonds : (slot : ℕ) (s : Switch) → bridge_at s slot ≡ None → Bonds s → Bonds (after_farewell slot s)
+farewell_bonds slot s none h =
+    queue_left_kept (λ (t : Switch). Bonds t) (λ name at t k. k) (queue_at s slot) slot (after_leaving slot s) (left_bonds slot s none h)
 
-lone_falls : (hangs : ℕ → Bool) (seat : ℕ) (old new : Chan) → Falls hangs seat old new → IsLone old → IsLone new
-lone_falls hangs seat old new (Cut cause hung) h = refl
-lone_falls hangs seat old new (Unbridged cause) h = h
-lone_falls hangs seat old new (Rests outlives live) h = h
-lone_falls hangs seat old new (Parks outlives live) h = h
+-- whoever is part of none stays so
+pub farewell_apart : (at slot : ℕ) (s : Switch) → bridge_at s at ≡ None → bridge_at (after_farewell slot s) at ≡ None
+farewell_apart at slot s none =
+    farewell_kept (λ (t : Switch). bridge_at t at ≡ None) (λ event t k. k)
+    (λ seat t k.
+    let u : Switch = orig_given_up seat (option_and_then awaited_by (chan_at t seat)) t in
+    let first : bridge_at u at ≡ None = given_apart at seat (option_and_then awaited_by (chan_at t seat)) t k in
+    changed_there (λ (v : Switch). bridge_at v at ≡ None) at_leisure seat u (λ c is. first) first) slot s none
 
-lone_settles : (hangs : ℕ → Bool) (seat : ℕ) (old new : Chan) → Settles hangs seat old new → IsLone old → IsLone new
-lone_settles hangs seat old new (Freed cause) h = h
-lone_settles hangs seat old new (Resumes outlives live) h = h
-lone_settles hangs seat old new (Halts outlives live) h = h
+pub farewells_bonds : (slots : List ℕ) (s : Switch) → ((slot : ℕ) → IsOneOf slot slots → bridge_at s slot ≡ None) → Bonds s →
+    Bonds (after_farewells slots s)
+farewells_bonds [] s apart h = h
+farewells_bonds (slot ∷ slots) s apart h =
+    farewells_bonds slots (after_farewell slot s) (λ other one. farewell_apart other slot s (apart other (inr one)))
+    (farewell_bonds slot s (apart slot (inl refl)) h)
 
-left_lone : (slot seat : ℕ) (s : Switch) → Holds IsLone s slot → Holds IsLone (after_leaving seat s) slot
-left_lone slot seat s h =
-    let awaited : Option ℕ = option_and_then awaited_by (chan_at s seat) in
-    let t : Switch = orig_given_up seat awaited s in
-    let k : Holds IsLone t slot = given_up_kept (λ (u : Switch). Holds IsLone u slot) (λ number u k. k) seat awaited s h in
-    changed_there (λ (u : Switch). Holds IsLone u slot) at_leisure seat t
-    (λ c is. holds_put IsLone t slot seat c (at_leisure c) is (λ none. none) k) k
+-- ---- all of it
 
--- it is none behind whoever leaves
-pub departed_lone : (slot seat : ℕ) (s : Switch) → Holds IsLone s slot → Holds IsLone (after_departure seat s) slot
-departed_lone slot seat s h =
-    departed_kept (λ (t : Switch). Holds IsLone t slot) (λ event t k. k)
-    (λ at old new t there how k. holds_put IsLone t slot at old new there (lone_settles (λ any. false) at old new how) k) (λ number t k. k)
-    (λ named t k. holds_hung IsLone lone_falls slot named t k) (λ at t k. left_lone slot at t k) seat s h
+pub cancelled_bonds : (slots : List ℕ) (s : Switch) → Bonds s → Bonds (after_cancelling slots s)
+cancelled_bonds slots s h = hung_bonds (map (λ leg. (leg, OriginatorCancel)) (all_legs_at s slots)) s h
+
+pub departed_bonds : (slots : List ℕ) (s : Switch) → Bonds s → Bonds (after_departures slots s)
+departed_bonds slots s h =
+    let k : Bonds (after_cancelling slots s) = cancelled_bonds slots s h in
+    farewells_bonds slots (after_leaving_others slots s) (left_apart slots (after_cancelling slots s) k)
+    (bridges_left_bonds slots (after_cancelling slots s) k)

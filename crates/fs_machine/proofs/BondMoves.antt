@@ -12,7 +12,7 @@ use Rattle.fs_bridge.specs.Bridges.{joined, next_row}
 use Rattle.fs_chan.specs.declared.chan.Chan.{Chan}
 use Rattle.fs_chan.specs.declared.peer.Peer.{Peer}
 use Rattle.fs_chan.specs.declared.wait.Wait.TheVariants.{Ready, Bridged}
-use Rattle.fs_chan.specs.Bridging.{awaiting, awaited_by, exported_pairs, with_disposition, bridged, in_media, at_leisure}
+use Rattle.fs_chan.specs.Bridging.{awaiting, awaited_by, exported_pairs, with_disposition, bridged, in_media}
 use Rattle.fs_chan.specs.Changes.{is_live, at_rest}
 use Rattle.fs_chan.specs.Controlling.{held_by}
 use Rattle.fs_orig.specs.declared.leg.OrigLeg.{OrigLeg}
@@ -30,7 +30,6 @@ use Rattle.fs_state.proofs.LegTables.{berthed}
 use Rattle.fs_state.specs.Switch.{Switch, chan_at, with_chan, bridge_at, with_bridge, next_orig_number, with_event, with_next_identifier}
 use Rattle.fs_state.specs.Switch.{without_orig}
 use Rattle.fs_state.specs.Moves.{with_changed_chan_from, after_move_from, after_move, orig_changed, leg_changed}
-use Rattle.fs_state.specs.Moves.{orig_given_up}
 use Rattle.fs_state.specs.Hangups.{lives, lives_at}
 use Rattle.fs_state.specs.Bridging.{bridge_event, can_join, peer_of, with_peer_from, with_peer, joined_as}
 use Rattle.fs_machine.specs.Originations.{MadeGroup, group_made, won_by, after_winning}
@@ -38,14 +37,12 @@ use Rattle.fs_machine.specs.Attempts.{first_group, orig_begun, awaits, with_grou
 use Rattle.fs_machine.specs.Bridging.{caller_of, group_dialed, goes_on, after_going_on, disposed, bridge_failed_from, after_bridge_failure}
 use Rattle.fs_machine.specs.Bridging.{after_bridge_win}
 use Rattle.fs_machine.specs.Dialing.{tried_by_slot}
-use Rattle.fs_machine.specs.Joining.{after_leaving}
 use Rattle.fs_machine.proofs.Kept.{Stage, Links, IsApt, IsAtWork, Keeps, KeptByTouches, KeptByCalls, KeptByBirths, KeptByDials}
 use Rattle.fs_machine.proofs.Kept.{KeptByMoves, raced, HasWon}
 use Rattle.fs_machine.proofs.StayLemmas.{WorksAt, is_at_work, exchange_lives, execute_lives, routing_lives, state_told_kept, moved_there}
 use Rattle.fs_machine.proofs.StayLemmas.{changed_there, held_keeps}
 use Rattle.fs_machine.proofs.StayLemmas.{orig_changed_channels}
-use Rattle.fs_machine.proofs.HangLemmas.{given_up_kept}
-use Rattle.fs_machine.proofs.JoinLemmas.{both_left_kept, rest_dials}
+use Rattle.fs_machine.proofs.JoinLemmas.{rest_dials}
 use Rattle.fs_machine.proofs.NameLemmas.{leg_chan, far_chan, pair_channels}
 use Rattle.fs_machine.proofs.Walk.{disposed_kept, group_made_kept}
 use Rattle.fs_machine.proofs.CanLemmas.{joins_apart, caller_lone, answerer_lone, caller_lives, answerer_lives}
@@ -53,7 +50,7 @@ use Rattle.fs_machine.proofs.WonLemmas.{bridge_won_kept}
 use Rattle.fs_machine.proofs.FrontLemmas.{Front, front_of, orig_changed_front, moves_by_front}
 use Rattle.fs_machine.proofs.LegLemmas.{Channels, roles_of, IsLegOf, LegsStand}
 use Rattle.fs_machine.proofs.LegHangups.{winning_leg}
-use Rattle.fs_machine.proofs.BondTables.{BondsIn, Bonds, Bonding, NoSlot, Stood, stood, opened, closed, lone_put}
+use Rattle.fs_machine.proofs.BondTables.{BondsIn, Bonds, Bonding, Stood, stood}
 use Rattle.fs_machine.proofs.BondHangups.{held_dials, LoneIn, lone_kept, peerless_apt, nothing_apt, hung_bonds}
 use Rattle.fs_machine.proofs.BondLeaves.{departed_bonds}
 use Rattle.fs_machine.proofs.BondChanges.{as_bonds, same_put, gone_put, pair_bonds, joined_tables}
@@ -82,12 +79,7 @@ no_number : (found : Option ℕ) → (is_some found ≡ true → ⊥) → found 
 no_number None none = refl
 no_number (Some number) none = absurd (none refl)
 
--- whoever is part of no bridge names none
-apart_peerless : (s : Switch) (slot : ℕ) → bridge_at s slot ≡ None → Bonds s → PeerlessIn s.channels slot
-apart_peerless s slot none h c there =
-    no_peer c.peer (λ some. false≢true (sym (ap is_some none) ∙ h.back slot c there some))
-
--- nor does one that waits for legs, and it is none itself
+-- one that waits for legs names none, and it is none itself
 awaits_some : (orig : ℕ) (found : Option ℕ) → is_at orig found ≡ true → found ≡ None → ⊥
 awaits_some orig found is none = false≢true (sym (ap (is_at orig) none) ∙ is)
 
@@ -124,29 +116,6 @@ bonds_touches = record {
   where
     as_front : (t u : Switch) → front_of u ≡ front_of t → Bonds t → Bonds u
     as_front t u same h = as_bonds t u (ap (λ (f : Front). f.channels) same) (ap (λ (f : Front). f.bridges) same) h
-
--- a channel leaves what it was in
-left_bonds : (slot : ℕ) (s : Switch) → bridge_at s slot ≡ None → Bonds s → Bonds (after_leaving slot s)
-left_bonds slot s none h = by (chan_at t slot) refl
-  where
-    t : Switch
-    t = orig_given_up slot (option_and_then awaited_by (chan_at s slot)) s
-
-    k : Bonds t × (bridge_at t slot ≡ None)
-    k = given_up_kept (λ (u : Switch). Bonds u × (bridge_at u slot ≡ None)) (λ number u k. k) slot
-        (option_and_then awaited_by (chan_at s slot)) s (h, none)
-
-    put : (c : Chan) → chan_at t slot ≡ Some c → Bonds (with_chan slot (Some (at_leisure c)) t)
-    put c is =
-        let peerless : c.peer ≡ None = apart_peerless t slot k.1 k.0 c is in
-        closed (with_held t.channels slot (Some (at_leisure c))) t.bridges
-        (lone_put NoSlot NoSlot t.channels t.bridges slot c (at_leisure c) is k.1
-        (peerless_apt c (at_leisure c) peerless refl refl refl (λ none. rest_dials None c.state) (k.0.apt slot c is)) peerless
-        (λ at no. absurd no) (λ at no. absurd no) (opened t.channels t.bridges k.0))
-
-    by : (found : Option Chan) → chan_at t slot ≡ found → Bonds (with_changed_chan_from at_leisure slot found t)
-    by None is = k.0
-    by (Some c) is = put c is
 
 -- ---- two are joined
 
@@ -243,11 +212,9 @@ bonds_calls : KeptByCalls Bonding
 bonds_calls = record {
   touches = bonds_touches;
   hung = λ named {s = s} early h. hung_bonds named s h;
-  joined = λ kind caller answerer c d {s = s} can there other one two first second was were h.
+  joined = λ kind caller answerer c d {s = s} can there other one two first second was h.
       joined_bonds kind caller answerer c d s can there other one two h;
-  leaves = λ one other {s = s} first second early h.
-      both_left_kept Bonds hung_bonds (λ slot t apart k. left_bonds slot t apart.bridge k) one other s first second h;
-  departs = λ slot {s = s} early h. departed_bonds slot s h;
+  departs = λ slots {s = s} early h. departed_bonds slots s h;
   more = λ h. h;
   gone = λ slot old {s = s} there dead early h. gone_put s.channels s.bridges slot old there dead h;
 }

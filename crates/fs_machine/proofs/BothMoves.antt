@@ -3,7 +3,7 @@ use Rattle.std.proofs.Common.{ℕ}
 use Rattle.fs_state.specs.Switch.{Switch}
 use Rattle.fs_machine.specs.declared.owing.Giver.{Giver}
 use Rattle.fs_machine.specs.declared.owing.Giver.TheVariants as giver
-use Rattle.fs_machine.proofs.Kept.{apart_by, goes_on_by, let_go_by, Fact, KeptByTouches, KeptByCalls, KeptByApi, KeptByJobs, KeptByDials}
+use Rattle.fs_machine.proofs.Kept.{none_joined_by, goes_on_by, let_go_by, Fact, KeptByTouches, KeptByCalls, KeptByApi, KeptByJobs, KeptByDials}
 use Rattle.fs_machine.proofs.Kept.{KeptByCommands, KeptByVisits, KeptByMoves}
 
 abbrev pub Both : Fact → Fact → Fact
@@ -22,15 +22,11 @@ module _ (P Q : Fact) where
   both_calls p q = record {
     touches = both_touches p.touches q.touches;
     hung = λ named early h. (p.hung named early.0 h.0, q.hung named early.1 h.1);
-    joined = λ kind caller answerer c d can there other one two idle spare was were h. (
-      p.joined kind caller answerer c d can there other one two idle spare (apart_by caller was (λ s k. k.0))
-          (apart_by answerer were (λ s k. k.0)) h.0,
-      q.joined kind caller answerer c d can there other one two idle spare (apart_by caller was (λ s k. k.1))
-          (apart_by answerer were (λ s k. k.1)) h.1,
+    joined = λ kind caller answerer c d can there other one two idle spare was h. (
+      p.joined kind caller answerer c d can there other one two idle spare (none_joined_by was (λ s k. k.0)) h.0,
+      q.joined kind caller answerer c d can there other one two idle spare (none_joined_by was (λ s k. k.1)) h.1,
     );
-    leaves = λ one other first second early h.
-        (p.leaves one other first second early.0 h.0, q.leaves one other first second early.1 h.1);
-    departs = λ slot early h. (p.departs slot early.0 h.0, q.departs slot early.1 h.1);
+    departs = λ slots early h. (p.departs slots early.0 h.0, q.departs slots early.1 h.1);
     more = λ h. (p.more h.0, q.more h.1);
     gone = λ slot old there dead early h. (p.gone slot old there dead early.0 h.0, q.gone slot old there dead early.1 h.1);
   }

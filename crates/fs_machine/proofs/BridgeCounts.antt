@@ -4,10 +4,10 @@ use Rattle.std.specs.Prelude.{◌&&◌}
 use Rattle.std.proofs.Common.{count_by, Option, None, Some, option_to_list, ◌⊎◌, inl, inr, refl, sym, ap, subst, ◌∙◌}
 use Rattle.std.proofs.Common.{arith, true≢false}
 use Rattle.std.specs.List.{find}
-use Rattle.std.proofs.lemmas.Bool.{eqb-true, or_cases, false≢true}
+use Rattle.std.proofs.lemmas.Bool.{cases_lt, eqb-true, or_cases, false≢true}
 use Rattle.std.proofs.lemmas.Cmp.{nat_eq_equiv}
 use Rattle.std.proofs.lemmas.List.{append_assoc}
-use Rattle.std.proofs.lemmas.List.Elements.{All-push}
+use Rattle.std.proofs.lemmas.List.Elements.{All-head, All-push, All-tail}
 use Rattle.std.proofs.lemmas.List.Sums.{sum_by-append, sum_by_push}
 use Rattle.fs_text.specs.declared.causes.Cause.{Cause}
 use Rattle.fs_text.specs.declared.causes.Cause.TheVariants.{NormalClearing}
@@ -22,7 +22,8 @@ use Rattle.fs_bridge.specs.Bridges.{BridgeRows, has_leg, has_number, unbridged}
 use Rattle.fs_bridge.specs.Closure.{Member, Members, Ends, closure_of}
 use Rattle.fs_bridge.specs.Hangups.{IsOneOf}
 use Rattle.fs_bridge.specs.Orders.{has_slot}
-use Rattle.fs_bridge.proofs.RowLemmas.{one_if}
+use Rattle.fs_bridge.proofs.DragLemmas.{one_back, one_filter, one_parts}
+use Rattle.fs_bridge.proofs.RowLemmas.{one_if, none_counted}
 use Rattle.fs_chan.specs.declared.chan.Chan.{Chan}
 use Rattle.fs_chan.specs.Bridging.{awaited_by, unbridged as let_go}
 use Rattle.fs_chan.specs.Changes.{is_live, at_rest, parked, hung_up}
@@ -43,15 +44,17 @@ use Rattle.fs_state.specs.declared.event.QueueAction.TheVariants.{Abort}
 use Rattle.fs_state.specs.Queues.{queue_event, abort_told}
 use Rattle.fs_machine.proofs.AbortLemmas.{abort_kept}
 use Rattle.fs_state.specs.Hangups.{after_hangups}
-use Rattle.fs_state.specs.Leaving.{after_parting}
-use Rattle.fs_machine.specs.BridgeEvents.{tells_begin, tells_end, begins, ends, begun, ended, EndsStandBehind}
+use Rattle.fs_state.specs.Leaving.{after_parting, leaving_of, after_bridges_left}
+use Rattle.fs_machine.specs.BridgeEvents.{tells_begin, tells_end, begins, ends, begun, ended, EndsStandBehind, shares_leg, EndsStandBetween}
 use Rattle.fs_machine.specs.EventNames.{can_tell, AreNamed}
 use Rattle.fs_machine.proofs.Kept.{IsOfNoBridge, TellsNoBridge}
 use Rattle.fs_machine.proofs.StayLemmas.{application_plain, state_plain_kept, moved_plain}
-use Rattle.fs_machine.proofs.BondRows.{RowsFit, unbridged_fit}
-use Rattle.fs_machine.proofs.ListCounts.{counts_front, counts_found, counts_none, counts_kept, counts_part, counts_apart, one_passes}
-use Rattle.fs_machine.proofs.ListCounts.{stands_pushed}
+use Rattle.fs_machine.proofs.BondRows.{IsLeg, RowsFit, is_leg, caller_leg, answerer_leg, unbridged_fit}
+use Rattle.fs_machine.proofs.ListCounts.{counts_front, counts_some, counts_one, counts_found, counts_none, counts_kept, counts_part}
+use Rattle.fs_machine.proofs.ListCounts.{counts_apart, one_passes, stands_in, stands_pushed}
 use Rattle.fs_machine.proofs.EndLemmas.{is_end_of, ends_of_number, rows_of_number, AreEnds, closure_ends}
+use Rattle.fs_machine.proofs.PartingLemmas.{parted_state, partings_kept}
+use Rattle.fs_machine.proofs.WorldEnds.{left_ends}
 
 -- ---- how often a number is drawn
 
@@ -122,12 +125,20 @@ pub record Tidings : Type 0 where
 abbrev pub tidings_of : Switch → Tidings
 tidings_of s = record { bridges = s.bridges; news = s.news }
 
+-- the bridge that stands of a number is the one of which it is told that it begins
+abbrev pub RowsAreTold : List Event → BridgeRows → Type 0
+RowsAreTold events bridges =
+    (row other : Row) (event : Event) → IsOneOf event events → event.detail ≡ detail.Bridge row → IsOneOf other bridges.rows →
+    other.number ≡ row.number → other ≡ row
+
 -- One event tells of each number that was drawn, and the bridge of each one stands, or its end is told, or so many are still to be told.
--- Each event is well named, and each end stands behind the beginning.
+-- Each event is well named, and each end stands behind the beginning, and in front of that of the next bridge of one of its legs.
 pub record TellsIn (past : List Event) (more : ℕ → ℕ) (now : Tidings) : Type 0 where
   pub rows : RowsFit now.bridges
   pub named : AreNamed (past ++ now.news)
   pub behind : EndsStandBehind (past ++ now.news)
+  pub between : EndsStandBetween (past ++ now.news)
+  pub rows_told : RowsAreTold (past ++ now.news) now.bridges
   pub begin : (number : ℕ) → begun number past + begun number now.news ≡ drawn_times number now.bridges.drawn
   pub end : (number : ℕ) →
       ended number past + ended number now.news + (rows_of_number number now.bridges + more number)
@@ -154,6 +165,8 @@ as_many past more other s same h = record {
   rows = h.rows;
   named = h.named;
   behind = h.behind;
+  between = h.between;
+  rows_told = h.rows_told;
   begin = h.begin;
   end = λ number. let is = same number in let all = h.end number in omega (arith, is, all);
 }
@@ -229,6 +242,75 @@ behind_push past news event begin h =
     by number front other is (inl last) = ap (begun number) last.0 ∙ begin number (ap (ends number) (sym last.1) ∙ is)
     by number front other is (inr sooner) = h number front sooner.0 other sooner.1 is
 
+-- of the events and one more it is that one, or was there
+one_pushed : (past news : List Event) (event other : Event) → IsOneOf other (past ++ (news ++ event ∷ [])) →
+    IsOneOf other (past ++ news) ⊎ (other ≡ event)
+one_pushed past news event other is =
+    by (one_parts other (past ++ news) (event ∷ []) (subst (λ events. IsOneOf other events) (sym (append_assoc past news (event ∷ []))) is))
+  where
+    by : IsOneOf other (past ++ news) ⊎ IsOneOf other (event ∷ []) → IsOneOf other (past ++ news) ⊎ (other ≡ event)
+    by (inl old) = inl old
+    by (inr (inl same)) = inr same
+    by (inr (inr none)) = absurd none
+
+-- the beginning that it tells is that of the bridge that stands of its number
+pub rows_push : (past news : List Event) (event : Event) (bridges : BridgeRows) →
+    ((row other : Row) → event.detail ≡ detail.Bridge row → IsOneOf other bridges.rows → other.number ≡ row.number → other ≡ row) →
+    RowsAreTold (past ++ news) bridges → RowsAreTold (past ++ (news ++ event ∷ [])) bridges
+rows_push past news event bridges of h row other one among is there same = by (one_pushed past news event one among)
+  where
+    by : IsOneOf one (past ++ news) ⊎ (one ≡ event) → other ≡ row
+    by (inl old) = h row other one old is there same
+    by (inr last) = of row other (ap (λ (e : Event). e.detail) (sym last) ∙ is) there same
+
+-- and the ends of those before that had one of its legs stand in front of it
+pub between_push : (past news : List Event) (event : Event) →
+    ((one other : Row) (before between : List Event) (first : Event) → past ++ news ≡ before ++ first ∷ between →
+    first.detail ≡ detail.Bridge one → event.detail ≡ detail.Bridge other → shares_leg one other ≡ true →
+    ended one.number between ≡ 1) →
+    EndsStandBetween (past ++ news) → EndsStandBetween (past ++ (news ++ event ∷ []))
+between_push past news event since h =
+    subst EndsStandBetween (append_assoc past news (event ∷ []))
+    (λ one other before between back first later is begin again shares.
+    by one other before between back first later begin again shares
+    (stands_pushed (past ++ news) event (before ++ first ∷ between) later back
+    (is ∙ sym (append_assoc before (first ∷ between) (later ∷ back)))))
+  where
+    by : (one other : Row) (before between back : List Event) (first later : Event) → first.detail ≡ detail.Bridge one →
+        later.detail ≡ detail.Bridge other → shares_leg one other ≡ true →
+        ((before ++ first ∷ between ≡ past ++ news) × (later ≡ event))
+        ⊎ ((rest : List Event) × (past ++ news ≡ (before ++ first ∷ between) ++ later ∷ rest)) →
+        ended one.number between ≡ 1
+    by one other before between back first later begin again shares (inl last) =
+        since one other before between first (sym last.0) begin (ap (λ (e : Event). e.detail) (sym last.1) ∙ again) shares
+    by one other before between back first later begin again shares (inr sooner) =
+        h one other before between sooner.0 first later
+        (sooner.1 ∙ append_assoc before (first ∷ between) (later ∷ sooner.0)) begin again shares
+
+-- each of these events has the name of what it tells
+pub named_one : (events : List Event) → AreNamed events → (event : Event) → IsOneOf event events → can_tell event.name event.detail ≡ true
+named_one [] all event one = absurd one
+named_one (e ∷ events) all event (inl same) =
+    ap (λ (x : Event). can_tell x.name x.detail) same ∙ All-head (λ (x : Event). can_tell x.name x.detail ≡ true) e events all
+named_one (e ∷ events) all event (inr one) =
+    named_one events (All-tail (λ (x : Event). can_tell x.name x.detail ≡ true) e events all) event one
+
+-- so one that tells of a bridge tells its beginning, and no end
+begins_of : (event : Event) (row : Row) → can_tell event.name event.detail ≡ true → event.detail ≡ detail.Bridge row →
+    begins row.number event ≡ true
+begins_of event row can is =
+    ap (λ (what : Detail). is_named ChannelBridge event && tells_begin row.number what) is
+    ∙ by event.name (ap (can_tell event.name) (sym is) ∙ can)
+  where
+    by : (name : EventName) → can_tell name (detail.Bridge row) ≡ true →
+        ((event_number name == event_number ChannelBridge) && has_number row.number row) ≡ true
+    by ChannelBridge can = ap (λ b. b && has_number row.number row) (has_name ChannelBridge) ∙ nat_eq_equiv.refl row.number
+    by _ can = absurd (false≢true can)
+
+begins_no_end : (number : ℕ) (event : Event) (row : Row) → event.detail ≡ detail.Bridge row → ends number event ≡ false
+begins_no_end number event row is =
+    ap (λ (what : Detail). is_named ChannelUnbridge event && tells_end number what) is ∙ never (is_named ChannelUnbridge event)
+
 -- by an event so many fewer are still to be told
 told_by : (past : List Event) (more less : ℕ → ℕ) (event : Event) (s : Switch) → can_tell event.name event.detail ≡ true →
     ((number : ℕ) → begins number event ≡ false) → ((number : ℕ) → more number ≡ less number + one_if (ends number event)) →
@@ -237,6 +319,9 @@ told_by past more less event s can none fewer h = record {
   rows = h.rows;
   named = named_push past s.news event can h.named;
   behind = behind_push past s.news event (λ number is. begun_before number is) h.behind;
+  between = between_push past s.news event (λ one other before between first at begin again shares. absurd (tells_none other again))
+      h.between;
+  rows_told = rows_push past s.news event s.bridges (λ row other is there same. absurd (tells_none row is)) h.rows_told;
   begin = λ number.
       let all = h.begin number in
       let push = begun_push number s.news event ∙ ap (λ b. begun number s.news + one_if b) (none number) in
@@ -248,6 +333,9 @@ told_by past more less event s can none fewer h = record {
       omega (arith, all, push, left);
 }
   where
+    tells_none : (row : Row) → event.detail ≡ detail.Bridge row → ⊥
+    tells_none row is = true≢false (sym (begins_of event row can is) ∙ none row.number)
+
     begun_before : (number : ℕ) → ends number event ≡ true → begun number (past ++ s.news) ≡ 1
     begun_before number is =
         let both : begun number (past ++ s.news) ≡ begun number past + begun number s.news =
@@ -389,6 +477,9 @@ module _ (past : List Event) where
         rows = unbridged_fit e.0.number s.bridges h.rows;
         named = h.named;
         behind = h.behind;
+        between = h.between;
+        rows_told = λ row other event one is there same.
+            h.rows_told row other event one is (one_filter (λ (r : Row). not (has_number e.0.number r)) other s.bridges.rows there) same;
         begin = h.begin;
         end = λ number. by number (e.0.number == number) refl;
       })
@@ -542,10 +633,138 @@ module _ (past : List Event) where
   hung_tells named s h = closure_tells (closure_of (world_of s) (living_of s named)) s (closure_ends named s h.rows) h
 
   -- a bridge is left, which is told at once
-  pub parted_tells : (slot : ℕ) (row : Row) (s : Switch) → bridge_at s slot ≡ Some row → Tells past s → Tells past (after_parting (Some row) s)
+  pub parted_tells : (slot : ℕ) (row : Row) (s : Switch) → bridge_at s slot ≡ Some row → Tells past s →
+      Tells past (after_parting (row, NormalClearing) s)
   parted_tells slot row s part h =
       let e : Ended = (row, NormalClearing) in
       let there = counts_found (has_leg slot) (has_number row.number) s.bridges.rows row part (nat_eq_equiv.refl row.number) in
       told_by past (λ number. 0 + one_if (is_end_of number e)) (λ number. 0) (unbridge_event e) (after_end row NormalClearing s) refl
       (λ number. unbridge_begins number e) (λ number. let told = ap one_if (unbridge_ends number e) in omega (arith, told))
       (end_tells (λ number. 0) e s there h)
+
+  -- some leave their bridges: these end, and then those that end by a hangup are told as ever
+  pub bridges_left_tells : (slots : List ℕ) (s : Switch) → Tells past s → Tells past (after_bridges_left slots s)
+  unfolding after_bridges_left
+  bridges_left_tells slots s h =
+      let parted = partings_kept (Tells past) parted_tells slots s h.rows h in
+      closure_tells (leaving_of slots s).ends (parted_state slots s) (left_ends slots s h.rows) parted
+
+-- ---- the end is told before the next beginning
+
+module _ (past : List Event) (s : Switch) (h : Tells past s) where
+  -- a number that is told was drawn
+  pub told_drawn : (row : Row) (event : Event) → IsOneOf event (past ++ s.news) → event.detail ≡ detail.Bridge row →
+      row.number ≤ s.bridges.drawn
+  told_drawn row event one is = by (cases_lt s.bridges.drawn row.number)
+    where
+      by : (s.bridges.drawn < row.number) ⊎ (row.number ≤ s.bridges.drawn) → row.number ≤ s.bridges.drawn
+      by (inl late) =
+          let none = drawn_later row.number s.bridges.drawn late in
+          let all = h.begin row.number in
+          let both : begun row.number (past ++ s.news) ≡ begun row.number past + begun row.number s.news =
+          sum_by-append (λ (e : Event). one_if (begins row.number e)) past s.news in
+          let some = counts_one (begins row.number) event (past ++ s.news) one
+          (begins_of event row (named_one (past ++ s.news) h.named event one) is) in
+          absurd (omega (arith, none, all, both, some))
+      by (inr last) = last
+
+  -- and so was that of a bridge that stands
+  pub row_drawn : (row : Row) → IsOneOf row s.bridges.rows → row.number ≤ s.bridges.drawn
+  row_drawn row one = by (cases_lt s.bridges.drawn row.number)
+    where
+      by : (s.bridges.drawn < row.number) ⊎ (row.number ≤ s.bridges.drawn) → row.number ≤ s.bridges.drawn
+      by (inl late) =
+          let none = drawn_later row.number s.bridges.drawn late in
+          let all = h.end row.number in
+          let some = counts_one (has_number row.number) row s.bridges.rows one (nat_eq_equiv.refl row.number) in
+          absurd (omega (arith, none, all, some))
+      by (inr last) = last
+
+  module _ (one : Row) (before between : List Event) (first : Event) (at : past ++ s.news ≡ before ++ first ∷ between)
+      (is : first.detail ≡ detail.Bridge one) where
+    among : IsOneOf first (past ++ s.news)
+    among = subst (λ events. IsOneOf first events) (sym at) (one_back first before (first ∷ between) (inl refl))
+
+    first_begins : begins one.number first ≡ true
+    first_begins = begins_of first one (named_one (past ++ s.news) h.named first among) is
+
+    begun_parts : begun one.number past + begun one.number s.news ≡ begun one.number before + (1 + begun one.number between)
+    begun_parts =
+        let both : begun one.number (past ++ s.news) ≡ begun one.number past + begun one.number s.news =
+        sum_by-append (λ (e : Event). one_if (begins one.number e)) past s.news in
+        let same = ap (begun one.number) at in
+        let parts : begun one.number (before ++ first ∷ between) ≡ begun one.number before + begun one.number (first ∷ between) =
+        sum_by-append (λ (e : Event). one_if (begins one.number e)) before (first ∷ between) in
+        let front = counts_front (begins one.number) first between ∙ ap (λ b. one_if b + begun one.number between) first_begins in
+        omega (arith, both, same, parts, front)
+
+    ended_parts : ended one.number past + ended one.number s.news ≡ ended one.number before + ended one.number between
+    ended_parts =
+        let both : ended one.number (past ++ s.news) ≡ ended one.number past + ended one.number s.news =
+        sum_by-append (λ (e : Event). one_if (ends one.number e)) past s.news in
+        let same = ap (ended one.number) at in
+        let parts : ended one.number (before ++ first ∷ between) ≡ ended one.number before + ended one.number (first ∷ between) =
+        sum_by-append (λ (e : Event). one_if (ends one.number e)) before (first ∷ between) in
+        let front = counts_front (ends one.number) first between
+        ∙ ap (λ b. one_if b + ended one.number between) (begins_no_end one.number first one is) in
+        omega (arith, both, same, parts, front)
+
+    -- no end of it is told in front of its beginning
+    none_before : ended one.number before ≡ 0
+    none_before = by (counts_some (ends one.number) before)
+      where
+        begun_front : (front back : List Event) (event : Event) → before ≡ front ++ event ∷ back →
+            begun one.number front ≤ begun one.number before
+        begun_front front back event is =
+            let same = ap (begun one.number) is in
+            let parts : begun one.number (front ++ event ∷ back) ≡ begun one.number front + begun one.number (event ∷ back) =
+            sum_by-append (λ (e : Event). one_if (begins one.number e)) front (event ∷ back) in
+            omega (arith, same, parts)
+
+        by : (ended one.number before ≡ 0) ⊎ ((e : Event) × IsOneOf e before × (ends one.number e ≡ true)) → ended one.number before ≡ 0
+        by (inl none) = none
+        by (inr some) =
+            let there = stands_in some.0 before some.1 in
+            let begin = h.behind one.number there.0 (there.1 ++ first ∷ between) some.0
+            (at ∙ ap (λ events. events ++ first ∷ between) there.2 ∙ append_assoc there.0 (some.0 ∷ there.1) (first ∷ between)) some.2 in
+            let less = begun_front there.0 there.1 some.0 there.2 in
+            let all = h.begin one.number in
+            let most = drawn_most one.number s.bridges.drawn in
+            absurd (omega (arith, begin, less, all, most, begun_parts))
+
+    -- a bridge that stands no more has ended since
+    ended_since : rows_of_number one.number s.bridges ≡ 0 → ended one.number between ≡ 1
+    ended_since gone =
+        let begin = h.begin one.number in
+        let end = h.end one.number in
+        let most = drawn_most one.number s.bridges.drawn in
+        omega (arith, begin, end, most, gone, begun_parts, ended_parts, none_before)
+
+    -- where the legs of another bridge are part of none, it stands no more if it shares one
+    pub ended_between : (other : Row) → bridge_at s other.caller ≡ None → bridge_at s other.answerer ≡ None →
+        shares_leg one other ≡ true → ended one.number between ≡ 1
+    ended_between other caller answerer shares = ended_since (by (counts_some (has_number one.number) s.bridges.rows))
+      where
+        lone : (slot : ℕ) → IsLeg slot other → bridge_at s slot ≡ None
+        lone slot (inl same) = ap (bridge_at s) same ∙ caller
+        lone slot (inr same) = ap (bridge_at s) same ∙ answerer
+
+        gone : (slot : ℕ) → has_leg slot other ≡ true → has_leg slot one ≡ true → IsOneOf one s.bridges.rows → ⊥
+        gone slot shared leg there =
+            let none = none_counted (has_leg slot) s.bridges.rows (lone slot (is_leg other slot shared)) in
+            let some = counts_one (has_leg slot) one s.bridges.rows there leg in
+            omega (arith, none, some)
+
+        shared : IsOneOf one s.bridges.rows → ⊥
+        shared there =
+            elim (or_cases (has_leg one.caller other) (has_leg one.answerer other) shares) [
+              | inl calls ↦ gone one.caller calls (caller_leg one) there
+              | inr answers ↦ gone one.answerer answers (answerer_leg one) there
+            ]
+
+        by : (rows_of_number one.number s.bridges ≡ 0)
+            ⊎ ((row : Row) × IsOneOf row s.bridges.rows × (has_number one.number row ≡ true)) → rows_of_number one.number s.bridges ≡ 0
+        by (inl none) = none
+        by (inr some) =
+            let same = h.rows_told one some.0 first among is some.1 (eqb-true some.0.number one.number some.2) in
+            absurd (shared (subst (λ row. IsOneOf row s.bridges.rows) same some.1))

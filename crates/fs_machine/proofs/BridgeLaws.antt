@@ -1,5 +1,5 @@
--- In every run one event tells of each bridge that it begins, and behind that one of each that stands no more that it has ended; each
--- event can tell what it tells.
+-- In every run one event tells of each bridge that it begins, and behind that one of each that stands no more that it has ended, in front
+-- of the beginning of the next bridge of one of its legs; each event can tell what it tells.
 use Rattle.std.proofs.Common.{◌≡◌, ℕ, ◌+◌, ◌≤◌, true, false, List, [], ◌∷◌, ◌++◌, Option, None, Some, is_some}
 use Rattle.std.proofs.Common.{◌⊎◌, inl, inr, refl, sym, ap, subst, ◌∙◌, arith, true≢false}
 use Rattle.std.proofs.lemmas.Bool.{false≢true, cases_eq}
@@ -13,7 +13,8 @@ use Rattle.fs_bridge.proofs.RowLemmas.{one_if, none_counted, none_found}
 use Rattle.fs_state.specs.declared.event.Event.{Event}
 use Rattle.fs_state.specs.Switch.{Switch, empty, at_moment}
 use Rattle.fs_machine.specs.declared.entry.Entry.{Entry}
-use Rattle.fs_machine.specs.BridgeEvents.{begins, ends, begun, ended, WasDrawn, BridgesAreTold, EndsStandBehind, events_in}
+use Rattle.fs_machine.specs.BridgeEvents.{begins, ends, begun, ended, WasDrawn, BridgesAreTold, EndsStandBehind, EndsStandBetween}
+use Rattle.fs_machine.specs.BridgeEvents.{events_in}
 use Rattle.fs_machine.specs.EventNames.{can_tell, AreNamed}
 use Rattle.fs_machine.specs.Events.{events_by, happened_from, events_of}
 use Rattle.fs_machine.specs.Runs.{run_from}
@@ -24,7 +25,7 @@ use Rattle.fs_machine.proofs.EventLemmas.{events_first}
 use Rattle.fs_machine.proofs.ListCounts.{found_passes, counts_found, some_stands}
 use Rattle.fs_machine.proofs.StandingLemmas.{none_fit}
 use Rattle.fs_machine.proofs.EndLemmas.{rows_of_number}
-use Rattle.fs_machine.proofs.BridgeCounts.{drawn_times, drawn_later, drawn_never, drawn_once, drawn_most, Tells}
+use Rattle.fs_machine.proofs.BridgeCounts.{drawn_times, drawn_later, drawn_never, drawn_once, drawn_most, RowsAreTold, Tells}
 use Rattle.fs_machine.proofs.BridgeMoves.{Telling, telling_moves}
 
 -- ---- runs
@@ -40,6 +41,9 @@ nothing_told config = record {
     rows = none_fit;
     named = All-nil (λ (event : Event). can_tell event.name event.detail ≡ true);
     behind = λ number front back event is ends. absurd (some_stands front event back is);
+    between = λ one other before between back first later is begin again shares.
+        absurd (some_stands before first (between ++ later ∷ back) is);
+    rows_told = λ row other event one is there same. absurd one;
     begin = λ number. refl;
     end = λ number. refl;
   };
@@ -53,6 +57,9 @@ past_told past s t h same over = record {
     rows = subst RowsFit (sym same) h.rows;
     named = subst AreNamed all_past h.named;
     behind = subst EndsStandBehind all_past h.behind;
+    between = subst EndsStandBetween all_past h.between;
+    rows_told = subst (RowsAreTold ((past ++ s.news) ++ t.news)) (sym same)
+        (subst (λ events. RowsAreTold events s.bridges) all_past h.rows_told);
     begin = λ number.
         let all = h.begin number in
         let both : begun number (past ++ s.news) ≡ begun number past + begun number s.news =
@@ -84,7 +91,15 @@ step_told past s entry h =
     let t : Switch = (act_done entry.act now).state in
     past_told past t (step s entry).state
     (acted_kept now (Telling past) (telling_moves past now) entry.act (λ loads config t k. k)
-    (record { rows = h.told.rows; named = h.told.named; behind = h.told.behind; begin = h.told.begin; end = h.told.end })) refl refl
+    (record {
+      rows = h.told.rows;
+      named = h.told.named;
+      behind = h.told.behind;
+      between = h.told.between;
+      rows_told = h.told.rows_told;
+      begin = h.told.begin;
+      end = h.told.end;
+    })) refl refl
 
 run_told : (seat : ℕ) (past : List Event) (s : Switch) (entries : List Entry) → HasTold past s →
     HasTold (past ++ events_of (happened_from seat s entries)) (run_from s entries)
@@ -144,6 +159,9 @@ module _ (past : List Event) (s : Switch) (h : HasTold past s) where
   all_behind : EndsStandBehind past
   all_behind = subst EndsStandBehind events_as h.told.behind
 
+  all_between : EndsStandBetween past
+  all_between = subst EndsStandBetween events_as h.told.between
+
   all_told : BridgesAreTold s past
   all_told = record {
     begin = λ number drawn. begun_as number ∙ drawn_once number s.bridges.drawn drawn.first drawn.last;
@@ -182,3 +200,7 @@ bridges_are_told config entries =
 pub ends_stand_behind : (config : Configuration) (entries : List Entry) → EndsStandBehind (events_in config entries)
 ends_stand_behind config entries =
     all_behind (events_in config entries) (run_from (empty config) entries) (run_has_told config entries)
+
+pub ends_stand_between : (config : Configuration) (entries : List Entry) → EndsStandBetween (events_in config entries)
+ends_stand_between config entries =
+    all_between (events_in config entries) (run_from (empty config) entries) (run_has_told config entries)

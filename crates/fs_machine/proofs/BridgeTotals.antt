@@ -4,7 +4,6 @@ use Rattle.std.proofs.Common.{inl, inr, refl, sym, ap, ◌∙◌, arith, true≢
 use Rattle.std.specs.Prelude.{◌&&◌}
 use Rattle.std.proofs.lemmas.Bool.{eqb-true, eq-eqb, false≢true}
 use Rattle.std.proofs.lemmas.Cmp.{nat_eq_equiv}
-use Rattle.std.proofs.lemmas.List.Elements.{All-head, All-tail}
 use Rattle.fs_text.specs.declared.event_names.EventName.{EventName}
 use Rattle.fs_text.specs.declared.event_names.EventName.TheVariants.{ChannelBridge, ChannelUnbridge}
 use Rattle.fs_text.specs.EventName.{event_row, event_number}
@@ -21,12 +20,12 @@ use Rattle.fs_state.specs.Counts.{is_named}
 use Rattle.fs_state.specs.Switch.{Switch, empty}
 use Rattle.fs_machine.specs.declared.entry.Entry.{Entry}
 use Rattle.fs_machine.specs.BridgeEvents.{tells_begin, tells_end, begins, ends, begun, ended, standing, BridgesAreCounted, events_in}
-use Rattle.fs_machine.specs.EventNames.{can_tell, AreNamed}
+use Rattle.fs_machine.specs.EventNames.{can_tell}
 use Rattle.fs_machine.specs.Runs.{View, run_from}
 use Rattle.fs_machine.proofs.ListCounts.{counts_front}
 use Rattle.fs_machine.proofs.EndLemmas.{rows_of_number}
 use Rattle.fs_machine.proofs.EventLemmas.{counts_events}
-use Rattle.fs_machine.proofs.BridgeCounts.{drawn_times, drawn_once, drawn_most}
+use Rattle.fs_machine.proofs.BridgeCounts.{drawn_times, drawn_once, drawn_most, named_one}
 use Rattle.fs_machine.proofs.BridgeLaws.{HasTold, begun_as, ended_as, all_named, run_has_told}
 
 -- ---- sums over numbers
@@ -114,13 +113,6 @@ module _ (X : Type 0) (test : ℕ → X → Bool) (any : X → Bool) where
           omega (arith, rest, both, front, first, own, all, most)
 
 -- ---- events and rows
-
-named_one : (events : List Event) → AreNamed events → (event : Event) → IsOneOf event events → can_tell event.name event.detail ≡ true
-named_one [] all event one = absurd one
-named_one (e ∷ events) all event (inl same) =
-    ap (λ (x : Event). can_tell x.name x.detail) same ∙ All-head (λ (x : Event). can_tell x.name x.detail ≡ true) e events all
-named_one (e ∷ events) all event (inr one) =
-    named_one events (All-tail (λ (x : Event). can_tell x.name x.detail ≡ true) e events all) event one
 
 -- an event that can tell what it tells has the name of a beginning just if it tells one
 begin_marks : (event : Event) → can_tell event.name event.detail ≡ true → Marks Event begins (is_named ChannelBridge) event

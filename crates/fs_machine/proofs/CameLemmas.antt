@@ -15,11 +15,13 @@ use Rattle.fs_seats.proofs.TableLemmas.{IsWrittenOrKept, written_or_kept}
 use Rattle.fs_state.specs.Switch.{Switch, chan_at, with_chan}
 use Rattle.fs_state.specs.Moves.{orig_changed, orig_given_up}
 use Rattle.fs_state.specs.Hangups.{after_hangups}
+use Rattle.fs_state.specs.Leaving.{after_bridges_left}
 use Rattle.fs_machine.specs.Joining.{after_leaving}
 use Rattle.fs_machine.proofs.Kept.{hold_in}
 use Rattle.fs_machine.proofs.StayLemmas.{rest_free, changed_there, orig_changed_channels}
 use Rattle.fs_machine.proofs.ClosureLemmas.{hangs_up}
-use Rattle.fs_machine.proofs.HangLemmas.{dies, Falls, Cut, Unbridged, Rests, Parks, hangups_kept, given_up_kept}
+use Rattle.fs_machine.proofs.HangLemmas.{dies, Falls, Cut, Unbridged, Rests, Parks, hangups_kept, given_up_kept, bridges_left_kept}
+use Rattle.fs_machine.proofs.HangLemmas.{hangs_as_left}
 use Rattle.fs_machine.proofs.JoinLemmas.{rest_dials}
 
 -- a new channel names what the old one named, and waits for what it waited for, or for less
@@ -115,6 +117,12 @@ pub came_hung : (named : Members) (s t : Switch) → Came s t → Came s (after_
 came_hung named s t h =
     hangups_kept named t (Came s) (λ event u k. k)
     (λ slot old new u there falls k. came_put s u slot old new there (falls_less (λ at. hangs_up at named t) slot old new falls) k)
+    (λ number u k. k) (λ cause seat slot number u k. came_changed s u (dies cause seat slot) number k) (λ number u k. k) h
+
+pub came_bridges_left : (slots : List ℕ) (s t : Switch) → Came s t → Came s (after_bridges_left slots t)
+came_bridges_left slots s t h =
+    bridges_left_kept slots t (Came s) (λ event u k. k)
+    (λ slot old new u there falls k. came_put s u slot old new there (falls_less (hangs_as_left slots t) slot old new falls) k)
     (λ number u k. k) (λ cause seat slot number u k. came_changed s u (dies cause seat slot) number k) (λ number u k. k) h
 
 pub came_left : (slot : ℕ) (s t : Switch) → Came s t → Came s (after_leaving slot t)

@@ -61,17 +61,16 @@ use Rattle.fs_chan.specs.Bridging.{exported_pairs, awaiting, awaited_by, bridged
 use Rattle.fs_orig.specs.declared.orig.Owner.{Owner}
 use Rattle.fs_orig.specs.Plans.{all_behind}
 use Rattle.fs_state.specs.Hangups.{after_hangups}
+use Rattle.fs_state.specs.Leaving.{after_bridges_left}
 use Rattle.fs_state.specs.Bridging.{peer_of, with_peer_from, with_peer, joined_as}
 use Rattle.fs_machine.specs.Bridging.{caller_of, group_dialed, goes_on, after_going_on, bridge_failed_from, after_bridge_failure, disposed}
 use Rattle.fs_machine.specs.Bridging.{after_bridge_win}
 use Rattle.fs_machine.specs.Dialing.{tried_by_slot}
-use Rattle.fs_machine.specs.Joining.{after_leaving}
-use Rattle.fs_machine.specs.Leaving.{after_departure}
-use Rattle.fs_machine.proofs.JoinLemmas.{both_left_kept}
+use Rattle.fs_machine.specs.Joining.{after_leaving, after_departures}
 use Rattle.fs_machine.proofs.LeaveLemmas.{departed_kept}
 use Rattle.fs_machine.proofs.NameLemmas.{leg_by}
 use Rattle.fs_machine.proofs.StayLemmas.{moved_there, changed_there}
-use Rattle.fs_machine.proofs.HangLemmas.{dies, given_up_kept, hangups_kept}
+use Rattle.fs_machine.proofs.HangLemmas.{dies, given_up_kept, hangups_kept, bridges_left_kept}
 use Rattle.fs_machine.proofs.WonLemmas.{bridge_won_kept}
 
 -- it has a cause, if it died
@@ -203,6 +202,11 @@ hung_told named s h =
     hangups_kept named s (λ (t : Switch). AllTold t.origs) (λ event t k. k) (λ slot old new t is falls k. k) (λ number t k. k) dies_told
     without_told h
 
+bridges_left_told : (slots : List ℕ) (s : Switch) → AllTold s.origs → AllTold (after_bridges_left slots s).origs
+bridges_left_told slots s h =
+    bridges_left_kept slots s (λ (t : Switch). AllTold t.origs) (λ event t k. k) (λ slot old new t is falls k. k) (λ number t k. k) dies_told
+    without_told h
+
 peer_told : (slot other : ℕ) (s : Switch) → AllTold s.origs → AllTold (with_peer slot other s).origs
 peer_told slot other s h = by (chan_at s other)
   where
@@ -222,10 +226,9 @@ left_told slot s h =
     given_up_kept (λ (t : Switch). AllTold t.origs) without_told slot awaited s h in
     changed_there (λ (t : Switch). AllTold t.origs) at_leisure slot (orig_given_up slot awaited s) (λ c is. given_up) given_up
 
-departed_told : (slot : ℕ) (s : Switch) → AllTold s.origs → AllTold (after_departure slot s).origs
-departed_told slot s h =
-    departed_kept (λ (t : Switch). AllTold t.origs) (λ event t k. k) (λ at old new t there settles k. k) (λ number t k. k) hung_told
-    left_told slot s h
+departed_told : (slots : List ℕ) (s : Switch) → AllTold s.origs → AllTold (after_departures slots s).origs
+departed_told slots s h =
+    departed_kept (λ (t : Switch). AllTold t.origs) (λ event t k. k) left_told hung_told bridges_left_told slots s h
 
 -- ---- what comes of a bridge that is dialed
 
@@ -433,10 +436,8 @@ told_moves before = record {
   calls = record {
     touches = touches_told;
     hung = λ named {s = s} early h. hung_told named s h;
-    joined = λ kind caller answerer c d {s = s} can there other one two first second was were h. joined_told kind caller answerer s h;
-    leaves = λ one other {s = s} first second early h.
-        both_left_kept (λ (t : Switch). AllTold t.origs) hung_told (λ slot t apart k. left_told slot t k) one other s first second h;
-    departs = λ slot {s = s} early h. departed_told slot s h;
+    joined = λ kind caller answerer c d {s = s} can there other one two first second was h. joined_told kind caller answerer s h;
+    departs = λ slots {s = s} early h. departed_told slots s h;
     more = λ h. h;
     gone = λ slot old there dead early h. h;
   };

@@ -21,6 +21,7 @@ use Rattle.fs_state.specs.declared.job.JobWork.TheVariants.{Originate}
 use Rattle.fs_state.specs.Switch.{Switch, chan_at, with_chan, with_next_identifier, identifier_of}
 use Rattle.fs_state.specs.Moves.{after_move_from, after_move, orig_changed}
 use Rattle.fs_state.specs.Hangups.{after_hangups}
+use Rattle.fs_state.specs.Leaving.{after_bridges_left}
 use Rattle.fs_machine.specs.declared.call.Call.{Call}
 use Rattle.fs_machine.specs.declared.originations.End.{End}
 use Rattle.fs_machine.specs.Originations.{target_of, end_of, leg_end, far_end, pair_made, leg_uuid, is_misnamed, won_by, after_winning}
@@ -28,11 +29,10 @@ use Rattle.fs_machine.proofs.Kept.{Stage, Fact, Remains, DoesJob, raced, IsShort
 use Rattle.fs_machine.proofs.ShortLemmas.{sent_short, uuid_short, profile_short}
 use Rattle.fs_machine.proofs.StayLemmas.{hangup_dead, state_told_kept, moved_there}
 use Rattle.fs_machine.proofs.ClosureLemmas.{hangs_up}
-use Rattle.fs_machine.proofs.HangLemmas.{dies, Falls, Cut, Unbridged, Rests, Parks, hangups_kept}
+use Rattle.fs_machine.proofs.HangLemmas.{dies, Falls, Cut, Unbridged, Rests, Parks, hangups_kept, bridges_left_kept, hangs_as_left}
 use Rattle.fs_machine.proofs.NameLemmas.{leg_uuid_short, leg_chan, far_chan, with_leg, pair_channels}
 use Rattle.fs_machine.proofs.FrontLemmas.{Front, front_of, orig_changed_front, Lively, KeptByRemains, joins_by_remains, calls_by_remains}
-use Rattle.fs_machine.proofs.FrontLemmas.{dials_by_remains, parts_by_remains, held_remains}
-use Rattle.fs_machine.proofs.FrontLemmas.{moves_by_front}
+use Rattle.fs_machine.proofs.FrontLemmas.{dials_by_remains, held_remains, moves_by_front}
 use Rattle.fs_machine.proofs.RestLemmas.{hung_rest}
 use Rattle.fs_machine.proofs.LegLemmas.{roles_of, LegsStand}
 use Rattle.fs_machine.proofs.LegHangups.{winner_lively}
@@ -84,6 +84,15 @@ hung_fit named s h =
     hangups_kept named s (λ (t : Switch). AllFit t.channels) (λ event t k. k)
     (λ slot old new t there falls k. put_fit slot new t
     (falls_fit (λ at. hangs_up at named s) slot old new falls (fit_there t slot old there k)) k)
+    (λ number t k. k)
+    (λ cause seat leg number t k. same_fit (front_of t) (front_of (orig_changed (dies cause seat leg) number t))
+    (orig_changed_front (dies cause seat leg) number t) k) (λ number t k. k) h
+
+bridges_left_fit : (slots : List ℕ) (s : Switch) → AllFit s.channels → AllFit (after_bridges_left slots s).channels
+bridges_left_fit slots s h =
+    bridges_left_kept slots s (λ (t : Switch). AllFit t.channels) (λ event t k. k)
+    (λ slot old new t there falls k. put_fit slot new t
+    (falls_fit (hangs_as_left slots s) slot old new falls (fit_there t slot old there k)) k)
     (λ number t k. k)
     (λ cause seat leg number t k. same_fit (front_of t) (front_of (orig_changed (dies cause seat leg) number t))
     (orig_changed_front (dies cause seat leg) number t) k) (λ number t k. k) h
@@ -152,11 +161,9 @@ remains_moves = record {
   joins = λ kind caller answerer {b = b} {s = s} can h.
       joins_by_remains Fit (λ event b t k. k) (λ rows b t k. k)
       (λ slot old new b t there remains holder k. put slot old new t there remains k) kind caller answerer b s h;
-  parts = λ slot row {b = b} {s = s} part h.
-      parts_by_remains Fit (λ event b t k. k) (λ rows b t k. k)
-      (λ slot old new b t there remains holder k. put slot old new t there remains k) row b s h;
   remains = λ slot old new {s = s} there remains holder h. put slot old new s there remains h;
   hung = λ named {s = s} h. hung_fit named s h;
+  leaves = λ slots {s = s} h. bridges_left_fit slots s h;
   more = λ h. h;
   gone = λ slot old {s = s} there dead h. each_put FitsIn s.channels slot None h tt;
 }

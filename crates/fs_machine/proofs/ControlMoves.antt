@@ -38,6 +38,7 @@ use Rattle.fs_state.specs.Switch.{Switch, chan_at, with_chan, conn_of, is_full_o
 use Rattle.fs_state.specs.Switch.{next_orig_number}
 use Rattle.fs_state.specs.Moves.{after_move, orig_changed, leg_changed}
 use Rattle.fs_state.specs.Hangups.{lives, after_hangups}
+use Rattle.fs_state.specs.Leaving.{after_bridges_left}
 use Rattle.fs_orig.specs.declared.orig.Orig.{Orig}
 use Rattle.fs_orig.specs.Changes.{with_answer}
 use Rattle.fs_machine.specs.declared.call.Call.{Call}
@@ -55,10 +56,10 @@ use Rattle.fs_machine.specs.Step.{new_conn}
 use Rattle.fs_machine.specs.Texts.{made_text, failed_text}
 use Rattle.fs_machine.proofs.ClosureLemmas.{hangs_up}
 use Rattle.fs_machine.proofs.ControlLemmas.{left_off, behind_conn}
-use Rattle.fs_machine.proofs.FrontLemmas.{Front, front_of, orig_changed_conns, KeptByRemains, joins_by_remains, parts_by_remains}
+use Rattle.fs_machine.proofs.FrontLemmas.{Front, front_of, orig_changed_conns, KeptByRemains, joins_by_remains}
 use Rattle.fs_machine.proofs.FrontLemmas.{calls_by_remains, dials_by_remains}
-use Rattle.fs_machine.proofs.HangLemmas.{dies, Falls, Cut, Unbridged, Rests, Parks, hangups_kept}
-use Rattle.fs_machine.proofs.Kept.{Stage, Fact, Remains, IsDialable, KeepsHold, apart_by, WasLetGo, raced, AreDead, KeptByTouches}
+use Rattle.fs_machine.proofs.HangLemmas.{dies, Falls, Cut, Unbridged, Rests, Parks, hangups_kept, bridges_left_kept, hangs_as_left}
+use Rattle.fs_machine.proofs.Kept.{Stage, Fact, Remains, IsDialable, KeepsHold, none_joined_by, WasLetGo, raced, AreDead, KeptByTouches}
 use Rattle.fs_machine.proofs.Kept.{KeptByCalls, KeptByBirths, KeptByApi, KeptByDials, KeptByMoves}
 use Rattle.fs_machine.proofs.NameLemmas.{leg_chan, far_chan, pair_channels}
 use Rattle.fs_machine.proofs.RestLemmas.{Rest, orig_changed_rest}
@@ -166,6 +167,14 @@ hung_holds : (named : Members) (s : Switch) → Holds s.channels s.conns →
 hung_holds named s h =
     hangups_kept named s (λ (t : Switch). Holds t.channels t.conns) (λ event t k. k)
     (λ slot old new t there falls k. falls_holds (λ at. hangs_up at named s) slot old new t there falls k)
+    (λ number t k. k)
+    (λ cause seat leg number t k. orig_holds (dies cause seat leg) number t k) (λ number t k. k) h
+
+bridges_left_holds : (slots : List ℕ) (s : Switch) → Holds s.channels s.conns →
+    Holds (after_bridges_left slots s).channels (after_bridges_left slots s).conns
+bridges_left_holds slots s h =
+    bridges_left_kept slots s (λ (t : Switch). Holds t.channels t.conns) (λ event t k. k)
+    (λ slot old new t there falls k. falls_holds (hangs_as_left slots s) slot old new t there falls k)
     (λ number t k. k)
     (λ cause seat leg number t k. orig_holds (dies cause seat leg) number t k) (λ number t k. k) h
 
@@ -448,11 +457,9 @@ remains_moves = record {
   joins = λ kind caller answerer {b = b} {s = s} can h.
       joins_by_remains Holding (λ event b t k. k) (λ rows b t k. k)
       (λ slot old new b t there remains holder k. remains_holds slot old new t there remains holder k) kind caller answerer b s h;
-  parts = λ slot row {b = b} {s = s} part h.
-      parts_by_remains Holding (λ event b t k. k) (λ rows b t k. k)
-      (λ slot old new b t there remains holder k. remains_holds slot old new t there remains holder k) row b s h;
   remains = λ slot old new {s = s} there remains holder h. remains_holds slot old new s there remains holder h;
   hung = λ named {s = s} h. hung_holds named s h;
+  leaves = λ slots {s = s} h. bridges_left_holds slots s h;
   more = λ h. h;
   gone = λ slot old {s = s} there dead h. gone_holds s.channels s.conns slot h;
 }
@@ -487,14 +494,12 @@ module _ (before : Switch) where
   calls_held = record {
     touches = touches_held;
     hung = λ named {s = s} early h. (calls_hold.hung named {s = s} early.0 h.0, tt);
-    joined = λ kind caller answerer c d {s = s} can there other one two idle spare was were h. (
+    joined = λ kind caller answerer c d {s = s} can there other one two idle spare was h. (
       calls_hold.joined kind caller answerer c d {s = s} can there other one two idle spare
-          (apart_by {P = Held} {Q = Holding} {s = s} caller was (λ t k. k.0))
-          (apart_by {P = Held} {Q = Holding} {s = s} answerer were (λ t k. k.0)) h.0,
+          (none_joined_by {P = Held} {Q = Holding} {s = s} was (λ t k. k.0)) h.0,
       tt,
     );
-    leaves = λ one other {s = s} first second early h. (calls_hold.leaves one other {s = s} first second early.0 h.0, tt);
-    departs = λ slot {s = s} early h. (calls_hold.departs slot {s = s} early.0 h.0, tt);
+    departs = λ slots {s = s} early h. (calls_hold.departs slots {s = s} early.0 h.0, tt);
     more = λ h. h;
     gone = λ slot old {s = s} there dead early h. (calls_hold.gone slot old {s = s} there dead early.0 h.0, tt);
   }

@@ -22,10 +22,12 @@ use Rattle.fs_state.specs.Moves.{orig_changed, after_one_hangup}
 use Rattle.fs_state.specs.Hangups.{lives, lives_at, world_of, living_of, Ended, is_leg_of, with_end_told, untold_by, after_member}
 use Rattle.fs_state.specs.Hangups.{after_members}
 use Rattle.fs_state.specs.Queues.{abort_told}
-use Rattle.fs_state.specs.Hangups.{after_ends, after_survivals, after_hangups, after_hangup, after_hangups_for}
+use Rattle.fs_state.specs.Hangups.{after_ends, after_survivals, after_closure, after_hangups, after_hangup, after_hangups_for}
+use Rattle.fs_state.specs.Leaving.{after_partings, leaving_of, after_bridges_left}
 use Rattle.fs_machine.proofs.StayLemmas.{hangup_dead, orig_changed_channels}
 use Rattle.fs_machine.proofs.TieLemmas.{lives_as, lives_in, HungAs, hung_by}
 use Rattle.fs_machine.proofs.HangLemmas.{dies, Falls, Cut, Unbridged, Rests, Parks, members_kept, survivals_kept, hangups_kept}
+use Rattle.fs_machine.proofs.HangLemmas.{hangs_as_left}
 use Rattle.fs_machine.proofs.ClosureLemmas.{hangs_up, same_members}
 
 -- no live channel is in a slot
@@ -61,7 +63,7 @@ dead_members untold members slot t h =
     (λ seat old new u there falls k. dead_falls (λ at. true) u slot seat old new there falls k) (λ number u k. k)
     (λ cause seat leg number u k. dead_changed (dies cause seat leg) number slot u k) (λ number u k. k) untold members t (λ m one. refl) h
 
-pub dead_survivals : (survivors : List (ℕ × After)) (slot : ℕ) (t : Switch) → DeadAt slot t → DeadAt slot (after_survivals survivors t)
+dead_survivals : (survivors : List (ℕ × After)) (slot : ℕ) (t : Switch) → DeadAt slot t → DeadAt slot (after_survivals survivors t)
 dead_survivals survivors slot t h =
     survivals_kept (λ at. false) (DeadAt slot) (λ event u k. k)
     (λ seat old new u there falls k. dead_falls (λ at. false) u slot seat old new there falls k) (λ number u k. k)
@@ -108,12 +110,18 @@ dies_in untold (m ∷ members) slot t is = by (λ u there. dies_in (untold_by m.
     by more (inr other) = more (after_member untold m t) (later other)
 
 -- whoever hangs up is dead then
+pub closure_dies : (e : Ends) (slot : ℕ) (t : Switch) → has_slot slot e.members ≡ true → DeadAt slot (after_closure e t)
+closure_dies e slot t is =
+    dead_survivals e.survivors slot (after_members e.ended e.members (after_ends e.ended t))
+    (dies_in e.ended e.members slot (after_ends e.ended t) is)
+
 pub members_die : (named : Members) (s : Switch) (slot : ℕ) → hangs_up slot named s ≡ true → DeadAt slot (after_hangups named s)
 unfolding after_hangups
-members_die named s slot is =
-    let e : Ends = closure_of (world_of s) (living_of s named) in
-    dead_survivals e.survivors slot (after_members e.ended e.members (after_ends e.ended s))
-    (dies_in e.ended e.members slot (after_ends e.ended s) is)
+members_die named s slot is = closure_dies (closure_of (world_of s) (living_of s named)) slot s is
+
+pub left_die : (slots : List ℕ) (s : Switch) (slot : ℕ) → hangs_as_left slots s slot ≡ true → DeadAt slot (after_bridges_left slots s)
+unfolding after_bridges_left
+left_die slots s slot is = closure_dies (leaving_of slots s).ends slot (after_partings (leaving_of slots s).parted s) is
 
 -- ---- whoever is named
 
@@ -129,7 +137,7 @@ named_stands : (w : World) (named : Members) (slot : ℕ) → has_slot slot name
 unfolding members_of
 named_stands w named slot is = more_stand w w.slots (in_order named) (in_order named) slot (has_order slot [] named ∙ is)
 
-or_behind : (a b : Bool) → b ≡ true → (a || b) ≡ true
+pub or_behind : (a b : Bool) → b ≡ true → (a || b) ≡ true
 or_behind true b is = refl
 or_behind false b is = is
 
@@ -148,6 +156,12 @@ living_has s (m ∷ named) slot live is =
     by later (inr there) true at = or_behind (m.0 == slot) (has_slot slot (living_of s named)) (later there)
     by later (inr there) false at = later there
 
+-- whoever is named and lives hangs up
+pub named_hangs_up : (named : Members) (s : Switch) (slot : ℕ) → lives_at s slot ≡ true → has_slot slot named ≡ true →
+    hangs_up slot named s ≡ true
+named_hangs_up named s slot live is =
+    same_members named s slot ∙ named_stands (world_of s) (living_of s named) slot (living_has s named slot live is)
+
 -- whoever is named is dead then
 pub named_dies : (named : Members) (s : Switch) (slot : ℕ) → has_slot slot named ≡ true → DeadAt slot (after_hangups named s)
 named_dies named s slot is = by (lives_at s slot) refl
@@ -157,9 +171,7 @@ named_dies named s slot is = by (lives_at s slot) refl
     as_dead (Some c) dead = dead
 
     by : (live : Bool) → lives_at s slot ≡ live → DeadAt slot (after_hangups named s)
-    by true live =
-        members_die named s slot
-        (same_members named s slot ∙ named_stands (world_of s) (living_of s named) slot (living_has s named slot live is))
+    by true live = members_die named s slot (named_hangs_up named s slot live is)
     by false dead = dead_hung named s slot (as_dead (chan_at s slot) dead)
 
 -- one that is hung up is

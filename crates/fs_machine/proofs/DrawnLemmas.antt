@@ -23,14 +23,13 @@ use Rattle.fs_machine.specs.Originations.{leg_end, pair_made, MadeGroup, group_m
 use Rattle.fs_machine.specs.Attempts.{first_group, orig_begun, with_group}
 use Rattle.fs_machine.specs.Bridging.{caller_of, group_dialed, goes_on, after_going_on, bridge_failed_from, after_bridge_failure, disposed}
 use Rattle.fs_machine.specs.Dialing.{tried_by_slot}
-use Rattle.fs_machine.specs.Joining.{after_leaving, both_left}
-use Rattle.fs_machine.specs.Leaving.{after_departure}
-use Rattle.fs_machine.proofs.JoinLemmas.{both_left_kept}
-use Rattle.fs_machine.proofs.Kept.{IsApart, KeptByTouches, KeptByBirths}
+use Rattle.fs_state.specs.Leaving.{after_bridges_left}
+use Rattle.fs_machine.specs.Joining.{after_leaving, after_departures}
+use Rattle.fs_machine.proofs.Kept.{KeptByTouches, KeptByBirths}
 use Rattle.fs_machine.proofs.LeaveLemmas.{departed_kept}
 use Rattle.fs_machine.proofs.NameLemmas.{leg_by}
 use Rattle.fs_machine.proofs.StayLemmas.{moved_there, changed_there}
-use Rattle.fs_machine.proofs.HangLemmas.{dies, hangups_kept, given_up_kept}
+use Rattle.fs_machine.proofs.HangLemmas.{dies, hangups_kept, given_up_kept, bridges_left_kept}
 use Rattle.fs_machine.proofs.Walk.{disposed_kept, group_made_kept}
 
 -- as many numbers of bridges were drawn
@@ -65,15 +64,15 @@ left_drawn slot s =
     let awaited : Option ℕ = option_and_then awaited_by (chan_at s slot) in
     changed_drawn at_leisure slot (orig_given_up slot awaited s) ∙ given_up_drawn slot awaited s
 
-pub both_left_drawn : (one other : ℕ) (s : Switch) → IsApart s one → IsApart s other → SameDrawn s (both_left one other s)
-both_left_drawn one other s first second =
-    both_left_kept (λ (t : Switch). SameDrawn s t) (λ named t h. hung_drawn named t ∙ h) (λ slot t apart h. left_drawn slot t ∙ h) one other s
-    first second refl
+bridges_left_drawn : (slots : List ℕ) (s : Switch) → SameDrawn s (after_bridges_left slots s)
+bridges_left_drawn slots s =
+    bridges_left_kept slots s (λ (t : Switch). SameDrawn s t) (λ event t h. h) (λ slot old new t is falls h. h) (λ number t h. h)
+    (λ cause seat leg number t h. orig_changed_drawn (dies cause seat leg) number t ∙ h) (λ number t h. h) refl
 
-pub departed_drawn : (slot : ℕ) (s : Switch) → SameDrawn s (after_departure slot s)
-departed_drawn slot s =
-    departed_kept (λ (t : Switch). SameDrawn s t) (λ event t h. h) (λ at old new t there settles h. h) (λ number t h. h)
-    (λ named t h. hung_drawn named t ∙ h) (λ at t h. left_drawn at t ∙ h) slot s refl
+pub departed_drawn : (slots : List ℕ) (s : Switch) → SameDrawn s (after_departures slots s)
+departed_drawn slots s =
+    departed_kept (λ (t : Switch). SameDrawn s t) (λ event t h. h) (λ at t h. left_drawn at t ∙ h) (λ named t h. hung_drawn named t ∙ h)
+    (λ all t h. bridges_left_drawn all t ∙ h) slots s refl
 
 pub won_drawn : (winner : Winner) (slot : ℕ) (s : Switch) → SameDrawn s (after_winning winner slot s)
 unfolding after_winning

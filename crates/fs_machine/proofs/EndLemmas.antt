@@ -11,12 +11,13 @@ use Rattle.fs_bridge.specs.Bridges.{BridgeRows, has_leg, has_number}
 use Rattle.fs_bridge.specs.Closure.{Member, Members, has_ended, with_end, ended_by, ended_of, members_of, closure_of}
 use Rattle.fs_bridge.specs.Hangups.{IsOneOf}
 use Rattle.fs_bridge.specs.Orders.{has_slot, in_order}
+use Rattle.fs_bridge.specs.Worlds.{World}
 use Rattle.fs_bridge.proofs.DragLemmas.{one_parts}
 use Rattle.fs_bridge.proofs.OnceLemmas.{has_order}
 use Rattle.fs_bridge.proofs.RowLemmas.{one_if}
 use Rattle.fs_bridge.proofs.SettledLemmas.{one_stands}
 use Rattle.fs_state.specs.Switch.{Switch, bridge_at}
-use Rattle.fs_state.specs.Hangups.{world_of, living_of, row_at, Ended, is_leg_of}
+use Rattle.fs_state.specs.Hangups.{world_of, living_of, Ended, is_leg_of}
 use Rattle.fs_machine.proofs.BondRows.{RowsFit, leg_part, is_leg}
 use Rattle.fs_machine.proofs.BondLemmas.{row_seen}
 use Rattle.fs_machine.proofs.ListCounts.{found_passes, counts_less, counts_some, counts_found}
@@ -60,54 +61,57 @@ apart_from s members ended slot number row fit part new is are = by (counts_some
         ap (λ (r : Row). r.caller == row.caller) same ∙ nat_eq_equiv.refl row.caller in
         absurd (true≢false (sym (any_of (λ (x : Ended). x.0.caller == row.caller) e ended some.1 calls) ∙ new))
 
--- with the bridge of one more member
-more_of : (s : Switch) (members : Members) (m : Member) (ended : List Ended) → RowsFit s.bridges → IsOneOf m members →
-    AreOf s members ended → AreOf s members (ended_by (world_of s) ended m)
-more_of s members m ended fit one are = by (row_at s m.0) refl
-  where
-    with_row : (row : Row) → row_at s m.0 ≡ Some row → has_ended row.caller ended ≡ false → AreOf s members (ended ++ (row, m.1) ∷ [])
-    with_row row is new = record {
-      member = λ e among. member e (one_parts e ended ((row, m.1) ∷ []) among);
-      once = λ number. once number (has_number number row) refl;
-    }
-      where
-        part : bridge_at s m.0 ≡ Some row
-        part = row_seen s m.0 row is
+-- whoever tells of a bridge, as a hangup asks, is part of it
+abbrev pub Shows : World → Switch → Type 0
+Shows w s = (slot : ℕ) (row : Row) → w.row slot ≡ Some row → bridge_at s slot ≡ Some row
 
-        member : (e : Ended) → IsOneOf e ended ⊎ IsOneOf e ((row, m.1) ∷ []) →
-            (m : Member) × IsOneOf m members × (bridge_at s m.0 ≡ Some e.0)
-        member e (inl old) = are.member e old
-        member e (inr (inl same)) = (m, one, part ∙ ap (λ (x : Ended). Some x.0) (sym same))
-        member e (inr (inr none)) = absurd none
+module _ (w : World) (s : Switch) (fit : RowsFit s.bridges) (shows : Shows w s) where
+  -- with the bridge of one more member
+  more_of : (members : Members) (m : Member) (ended : List Ended) → IsOneOf m members → AreOf s members ended →
+      AreOf s members (ended_by w ended m)
+  more_of members m ended one are = by (w.row m.0) refl
+    where
+      with_row : (row : Row) → w.row m.0 ≡ Some row → has_ended row.caller ended ≡ false → AreOf s members (ended ++ (row, m.1) ∷ [])
+      with_row row is new = record {
+        member = λ e among. member e (one_parts e ended ((row, m.1) ∷ []) among);
+        once = λ number. once number (has_number number row) refl;
+      }
+        where
+          part : bridge_at s m.0 ≡ Some row
+          part = shows m.0 row is
 
-        once : (number : ℕ) (b : Bool) → has_number number row ≡ b → ends_of_number number (ended ++ (row, m.1) ∷ []) ≤ 1
-        once number true has =
-            let none = apart_from s members ended m.0 number row fit part new has are in
-            let more = sum_by_push (λ (e : Ended). one_if (is_end_of number e)) ended (row, m.1)
-            ∙ ap (λ b. ends_of_number number ended + one_if b) has in
-            omega (arith, none, more)
-        once number false has =
-            let old = are.once number in
-            let more = sum_by_push (λ (e : Ended). one_if (is_end_of number e)) ended (row, m.1)
-            ∙ ap (λ b. ends_of_number number ended + one_if b) has in
-            omega (arith, old, more)
+          member : (e : Ended) → IsOneOf e ended ⊎ IsOneOf e ((row, m.1) ∷ []) →
+              (m : Member) × IsOneOf m members × (bridge_at s m.0 ≡ Some e.0)
+          member e (inl old) = are.member e old
+          member e (inr (inl same)) = (m, one, part ∙ ap (λ (x : Ended). Some x.0) (sym same))
+          member e (inr (inr none)) = absurd none
 
-    either : (row : Row) → row_at s m.0 ≡ Some row → (test : Bool) → has_ended row.caller ended ≡ test →
-        AreOf s members (if test then ended else ended ++ (row, m.1) ∷ [])
-    either row is true old = are
-    either row is false new = with_row row is new
+          once : (number : ℕ) (b : Bool) → has_number number row ≡ b → ends_of_number number (ended ++ (row, m.1) ∷ []) ≤ 1
+          once number true has =
+              let none = apart_from s members ended m.0 number row fit part new has are in
+              let more = sum_by_push (λ (e : Ended). one_if (is_end_of number e)) ended (row, m.1)
+              ∙ ap (λ b. ends_of_number number ended + one_if b) has in
+              omega (arith, none, more)
+          once number false has =
+              let old = are.once number in
+              let more = sum_by_push (λ (e : Ended). one_if (is_end_of number e)) ended (row, m.1)
+              ∙ ap (λ b. ends_of_number number ended + one_if b) has in
+              omega (arith, old, more)
 
-    by : (found : Option Row) → row_at s m.0 ≡ found → AreOf s members (with_end m.1 ended found)
-    by None is = are
-    by (Some row) is = either row is (has_ended row.caller ended) refl
+      either : (row : Row) → w.row m.0 ≡ Some row → (test : Bool) → has_ended row.caller ended ≡ test →
+          AreOf s members (if test then ended else ended ++ (row, m.1) ∷ [])
+      either row is true old = are
+      either row is false new = with_row row is new
 
-all_of : (s : Switch) (members more : Members) (ended : List Ended) → RowsFit s.bridges →
-    ((m : Member) → IsOneOf m more → IsOneOf m members) → AreOf s members ended →
-    AreOf s members (fold (ended_by (world_of s)) ended more)
-all_of s members [] ended fit among are = are
-all_of s members (m ∷ more) ended fit among are =
-    all_of s members more (ended_by (world_of s) ended m) fit (λ other one. among other (inr one))
-    (more_of s members m ended fit (among m (inl refl)) are)
+      by : (found : Option Row) → w.row m.0 ≡ found → AreOf s members (with_end m.1 ended found)
+      by None is = are
+      by (Some row) is = either row is (has_ended row.caller ended) refl
+
+  all_of : (members more : Members) (ended : List Ended) → ((m : Member) → IsOneOf m more → IsOneOf m members) →
+      AreOf s members ended → AreOf s members (fold (ended_by w) ended more)
+  all_of members [] ended among are = are
+  all_of members (m ∷ more) ended among are =
+      all_of members more (ended_by w ended m) (λ other one. among other (inr one)) (more_of members m ended (among m (inl refl)) are)
 
 -- ---- what holds of them
 
@@ -117,16 +121,17 @@ pub record AreEnds (bridges : BridgeRows) (members : Members) (ended : List Ende
   pub legs : (e : Ended) → IsOneOf e ended → (slot : ℕ) × (has_slot slot members ≡ true) × (is_leg_of slot e ≡ true)
   pub one : (slot : ℕ) → count_by (is_leg_of slot) ended ≤ 1
 
-module _ (named : Members) (s : Switch) (fit : RowsFit s.bridges) where
+-- whose hangup it is, in any world that shows bridges that stand
+module _ (w : World) (named : Members) (s : Switch) (fit : RowsFit s.bridges) (shows : Shows w s) where
   members : Members
-  members = members_of (world_of s) (living_of s named)
+  members = members_of w named
 
   ended : List Ended
-  ended = ended_of (world_of s) members
+  ended = ended_of w members
 
   are : AreOf s members ended
   unfolding ended
-  are = all_of s members members [] fit (λ m one. one) (record { member = λ e none. absurd none; once = λ number. omega arith })
+  are = all_of w s fit shows members members [] (λ m one. one) (record { member = λ e none. absurd none; once = λ number. omega arith })
 
   stands : (number : ℕ) → ends_of_number number ended ≤ rows_of_number number s.bridges
   stands number = by (counts_some (is_end_of number) ended)
@@ -171,11 +176,24 @@ module _ (named : Members) (s : Switch) (fit : RowsFit s.bridges) where
               let same : e.0 ≡ some.0.0 = same_Some e.0 some.0.0 (sym (is_part slot e one leg) ∙ part) in
               ap (has_number some.0.0.number) same ∙ nat_eq_equiv.refl some.0.0.number
 
-  pub closure_once : (number : ℕ) → ends_of_number number (closure_of (world_of s) (living_of s named)).ended ≤ 1
+  -- each of them stands until then
+  pub end_stands_in : (e : Ended) → IsOneOf e (closure_of w named).ended → (slot : ℕ) × (bridge_at s slot ≡ Some e.0)
   unfolding ended members
-  closure_once number = are.once number
+  end_stands_in e one = let of = are.member e one in (of.0.0, of.2)
+
+  pub closure_once_in : (number : ℕ) → ends_of_number number (closure_of w named).ended ≤ 1
+  unfolding ended members
+  closure_once_in number = are.once number
+
+  pub closure_ends_in : AreEnds s.bridges (closure_of w named).members (closure_of w named).ended
+  unfolding ended members
+  closure_ends_in = record { stand = stands; legs = has_one; one = one_leg }
+
+-- as a switch has it
+module _ (named : Members) (s : Switch) (fit : RowsFit s.bridges) where
+  pub closure_once : (number : ℕ) → ends_of_number number (closure_of (world_of s) (living_of s named)).ended ≤ 1
+  closure_once = closure_once_in (world_of s) (living_of s named) s fit (row_seen s)
 
   pub closure_ends :
       AreEnds s.bridges (closure_of (world_of s) (living_of s named)).members (closure_of (world_of s) (living_of s named)).ended
-  unfolding ended members
-  closure_ends = record { stand = stands; legs = has_one; one = one_leg }
+  closure_ends = closure_ends_in (world_of s) (living_of s named) s fit (row_seen s)

@@ -1,5 +1,5 @@
 -- What happens to connections, jobs and originations leaves channels as they are, and all that channels see.
-use Rattle.std.proofs.Common.{◌≡◌, ℕ, Bool, true, false, if◌then◌else◌, List, [], ◌∷◌, Option, None, Some, unwrap_or, option_and_then, ◌⊎◌}
+use Rattle.std.proofs.Common.{◌≡◌, ℕ, Bool, true, false, List, [], ◌∷◌, Option, None, Some, unwrap_or, option_and_then, ◌⊎◌}
 use Rattle.std.proofs.Common.{inl, inr, refl, sym, ap, ◌∙◌}
 use Rattle.std.proofs.lemmas.Bool.{cases_eq}
 use Rattle.std.proofs.lemmas.Option.{same_Some}
@@ -9,19 +9,14 @@ use Rattle.fs_doc.specs.Dialplans.{Context}
 use Rattle.fs_doc.specs.declared.settings.Settings.{Settings}
 use Rattle.fs_text.specs.Cause.{cause_name}
 use Rattle.fs_text.specs.declared.causes.Cause.{Cause}
-use Rattle.fs_text.specs.declared.causes.Cause.TheVariants.{NormalClearing}
-use Rattle.fs_text.specs.declared.states.State.TheVariants.{CsPark}
 use Rattle.fs_text.specs.declared.event_names.EventName.TheVariants.{ChannelExecuteComplete}
 use Rattle.fs_bridge.specs.declared.row.BridgeKind.{BridgeKind}
 use Rattle.fs_bridge.specs.declared.row.BridgeKind.TheVariants.{Dial}
-use Rattle.fs_bridge.specs.declared.after.After.{After}
-use Rattle.fs_bridge.specs.declared.after.After.TheVariants.{GoOn, Hangup, Park}
-use Rattle.fs_bridge.specs.declared.row.Row.{Row}
-use Rattle.fs_bridge.specs.Bridges.{BridgeRows, next_row, joined, unbridged}
+use Rattle.fs_bridge.specs.Bridges.{BridgeRows, next_row, joined}
 use Rattle.fs_bridge.specs.Closure.{Members}
 use Rattle.fs_chan.specs.declared.chan.Chan.{Chan}
-use Rattle.fs_chan.specs.Bridging.{awaiting, awaited_by, bridged, in_media, at_leisure, exported_pairs, unbridged as let_go}
-use Rattle.fs_chan.specs.Changes.{is_live, at_rest, parked}
+use Rattle.fs_chan.specs.Bridging.{awaiting, awaited_by, bridged, in_media, at_leisure, exported_pairs}
+use Rattle.fs_chan.specs.Changes.{is_live, at_rest}
 use Rattle.fs_chan.specs.Controlling.{held_by, dial_of}
 use Rattle.fs_chan.specs.declared.peer.Peer.{Peer}
 use Rattle.fs_orig.specs.declared.caller.Caller.{Caller}
@@ -39,6 +34,7 @@ use Rattle.fs_seats.specs.Rows.{with_row}
 use Rattle.fs_state.specs.declared.conn.Conn.{Conn}
 use Rattle.fs_state.specs.declared.conn.Parting.TheVariants as parting
 use Rattle.fs_state.specs.declared.event.Event.{Event}
+use Rattle.fs_state.specs.declared.event.QueueAction.TheVariants.{Abort}
 use Rattle.fs_state.specs.declared.job.Asker.{Asker}
 use Rattle.fs_state.specs.declared.job.Asker.TheVariants as asker
 use Rattle.fs_state.specs.declared.job.JobWork.{JobWork}
@@ -46,12 +42,13 @@ use Rattle.fs_state.specs.declared.job.JobWork.TheVariants.{Originate}
 use Rattle.fs_state.specs.Counts.{Tallies}
 use Rattle.fs_state.specs.Ending.{ended}
 use Rattle.fs_state.specs.Switch.{Switch, chan_at, with_chan, with_bridge, conn_of, with_new_conn, orig_of, next_orig_number}
-use Rattle.fs_state.specs.Switch.{with_new_job, without_job, without_orig, with_event, bridge_at, without_bridge}
+use Rattle.fs_state.specs.Switch.{with_new_job, without_job, without_orig, with_event}
 use Rattle.fs_state.specs.Switch.{with_next_identifier}
 use Rattle.fs_state.specs.Moves.{plain_event, application_event, running_at, with_changed_chan, after_move, orig_changed_from, orig_changed}
 use Rattle.fs_state.specs.Moves.{leg_changed, is_owner, given_up_by, orig_given_up}
-use Rattle.fs_state.specs.Hangups.{lives, lives_at, row_at, unbridge_event, after_end, after_outliving, after_survival, after_hangups}
-use Rattle.fs_state.specs.Leaving.{dropped_by, after_parting, after_leaving_others}
+use Rattle.fs_state.specs.Queues.{queue_event}
+use Rattle.fs_state.specs.Hangups.{lives, lives_at, after_hangups}
+use Rattle.fs_state.specs.Leaving.{after_bridges_left}
 use Rattle.fs_state.specs.Bridging.{can_join, bridge_event, peer_of, with_peer_from, with_peer, joined_as}
 use Rattle.fs_machine.specs.Controlling.{coming_number, controller, after_leavings}
 use Rattle.fs_machine.specs.Texts.{made_text, failed_text}
@@ -64,16 +61,11 @@ use Rattle.fs_machine.specs.Owing.{job_number, after_job_begin, background_begun
 use Rattle.fs_machine.specs.Bridging.{caller_of, group_dialed, goes_on, after_going_on, bridge_failed_from, after_bridge_failure, disposed}
 use Rattle.fs_machine.specs.Bridging.{after_bridge_win}
 use Rattle.fs_machine.specs.Dialing.{tried_by_slot}
-use Rattle.fs_machine.specs.Joining.{after_leaving}
-use Rattle.fs_machine.specs.Leaving.{after_departure}
-use Rattle.fs_machine.proofs.Kept.{Stage, Fact, TellsNoBridge, Links, Remains, Keeps, KeepsHold, KeptByTouches, KeptByCalls, KeptByBirths, DoesJob}
-use Rattle.fs_machine.proofs.Kept.{KeptByDials}
-use Rattle.fs_machine.proofs.Kept.{raced}
-use Rattle.fs_machine.proofs.Kept.{HasWon, KeptByApi, KeptByMoves}
-use Rattle.fs_machine.proofs.StayLemmas.{application_plain, moved_plain, changed_there, park_lives, same_holder, rest_holder, held_keeps}
-use Rattle.fs_machine.proofs.JoinLemmas.{both_left_kept}
-use Rattle.fs_machine.proofs.LeaveLemmas.{others_left}
-use Rattle.fs_machine.proofs.BondLemmas.{row_seen}
+use Rattle.fs_machine.specs.Joining.{after_leaving, after_departures}
+use Rattle.fs_machine.proofs.Kept.{Stage, Fact, TellsNoBridge, Links, Remains, Keeps, KeepsHold, KeptByTouches, KeptByCalls, KeptByBirths}
+use Rattle.fs_machine.proofs.Kept.{KeptByDials, raced, DoesJob, HasWon, KeptByApi, KeptByMoves}
+use Rattle.fs_machine.proofs.StayLemmas.{application_plain, moved_plain, changed_there, rest_holder, held_keeps}
+use Rattle.fs_machine.proofs.LeaveLemmas.{departed_by}
 use Rattle.fs_machine.proofs.Walk.{disposed_kept, group_made_kept}
 use Rattle.fs_machine.proofs.RestLemmas.{whichever}
 use Rattle.fs_machine.proofs.CanLemmas.{answerer_lives}
@@ -172,8 +164,8 @@ pub record KeptByRemains (P : Fact) : Type 0 where
       P b (joined_as kind caller answerer s)
   pub remains : (slot : ℕ) (old new : Chan) {b : Stage} {s : Switch} → chan_at s slot ≡ Some old → Remains old new →
       KeepsHold old new → P b s → P b (with_chan slot (Some new) s)
-  pub parts : (slot : ℕ) (row : Row) {b : Stage} {s : Switch} → bridge_at s slot ≡ Some row → P b s → P b (after_parting (Some row) s)
   pub hung : (named : Members) {b : Stage} {s : Switch} → P b s → P b (after_hangups named s)
+  pub leaves : (slots : List ℕ) {b : Stage} {s : Switch} → P b s → P b (after_bridges_left slots s)
   pub more : {s : Switch} → P (Some 0) s → P (Some 1) s
   pub gone : (slot : ℕ) (old : Chan) {s : Switch} → chan_at s slot ≡ Some old → is_live old ≡ false → P (Some 0) s →
       P (Some 1) (with_chan slot None s)
@@ -247,20 +239,6 @@ module _ (P : Fact) (told : (event : Event) (b : Stage) (s : Switch) → P b s �
           (λ c there. remains slot c (bridged (peer_of other d) c) b s there
           (record { uuid = refl; partner = refl; live = refl; short = λ short. short }) (joined_holder (peer_of other d) c) h) h
 
-  freed_remains : (cause : Cause) (slot : ℕ) (b : Stage) (s : Switch) → P b s → P b (with_changed_chan (let_go cause) slot s)
-  freed_remains cause slot b s h =
-      changed_there (P b) (let_go cause) slot s
-      (λ c there. remains slot c (let_go cause c) b s there (record { uuid = refl; partner = refl; live = refl; short = λ short. short })
-      (same_holder refl refl) h)
-      h
-
-  pub parts_by_remains : (row : Row) (b : Stage) (s : Switch) → P b s → P b (after_parting (Some row) s)
-  parts_by_remains row b s h =
-      let t : Switch = without_bridge row.number s in
-      told (unbridge_event (row, NormalClearing)) b (after_end row NormalClearing s)
-      (freed_remains NormalClearing row.answerer b (with_changed_chan (let_go NormalClearing) row.caller t)
-      (freed_remains NormalClearing row.caller b t (bridges (unbridged row.number s.bridges) b s h)))
-
   pub joins_by_remains : (kind : BridgeKind) (caller answerer : ℕ) (b : Stage) (s : Switch) → P b s → P b (joined_as kind caller answerer s)
   joins_by_remains kind caller answerer b s h =
       let t : Switch = with_bridge caller answerer kind s in
@@ -305,44 +283,17 @@ module _ (before : Switch) (P : Fact)
       (λ c. record { uuid = refl; partner = refl; live = refl; short = λ short. short }) leisure_holder
       (same b s (orig_given_up slot awaited s) h (given_up_front slot awaited s) (given_up_conns slot awaited s))
 
-  -- the other leg of a bridge that was left
-  survived_remains : (what : After) (slot : ℕ) (b : Stage) (s : Switch) → P b s → P b (after_survival what slot s)
-  survived_remains what slot b s h = by (lives_at s slot) refl
-    where
-      on : (after : After) → lives_at s slot ≡ true → P b (after_outliving after slot s)
-      on GoOn live =
-          kept.told (application_event ChannelExecuteComplete (running_at slot s) slot) (application_plain (running_at slot s) slot)
-          (moved_remains at_rest slot b s (λ c there. record { uuid = refl; partner = refl; live = refl; short = λ short. short })
-          rests_holder h)
-      on Park live =
-          moved_remains parked slot b s
-          (λ c there. record { uuid = refl; partner = refl; live = park_lives ∙ sym (sym (ap lives there) ∙ live); short = λ short. short })
-          (λ c. rest_holder c.socket CsPark (inl refl) refl) h
-      on (Hangup cause) live = h
-
-      by : (live : Bool) → lives_at s slot ≡ live → P b (if live then after_outliving what slot s else s)
-      by true is = on what is
-      by false is = h
-
-  departed_remains : (slot : ℕ) (b : Stage) (s : Switch) → P b s → P b (after_departure slot s)
-  departed_remains slot b s h =
-      left_remains slot b (after_leaving_others slot s)
-      (others_left s slot (P b) (λ found is. kept.hung (dropped_by slot s) (parted found is))
-      (λ one is t k. survived_remains one.1 one.0 b t k))
-    where
-      parted : (found : Option Row) → row_at s slot ≡ found → P b (after_parting found s)
-      parted None is = h
-      parted (Some row) is = kept.parts slot row (row_seen s slot row is) h
+  departed_remains : (slots : List ℕ) (b : Stage) (s : Switch) → P b s → P b (after_departures slots s)
+  departed_remains slots b s h =
+      departed_by (P b) (λ name slot t k. kept.told (queue_event Abort name slot) (refl, tt) k) (λ slot t k. left_remains slot b t k)
+      (λ named t k. kept.hung named k) (λ all t k. kept.leaves all k) slots s h
 
   pub calls_by_remains : KeptByCalls P
   calls_by_remains = record {
     touches = touches;
     hung = λ named early h. kept.hung named h;
-    joined = λ kind caller answerer c d can there other one two first second was were h. kept.joins kind caller answerer can h;
-    leaves = λ one other {s = s} first second early h.
-        both_left_kept (P (Some 0)) (λ named t k. kept.hung named k) (λ slot t apart k. left_remains slot (Some 0) t k) one other s
-        first second h;
-    departs = λ slot {s = s} early h. departed_remains slot (Some 0) s h;
+    joined = λ kind caller answerer c d can there other one two first second was h. kept.joins kind caller answerer can h;
+    departs = λ slots {s = s} early h. departed_remains slots (Some 0) s h;
     more = kept.more;
     gone = λ slot old there dead early h. kept.gone slot old there dead h;
   }

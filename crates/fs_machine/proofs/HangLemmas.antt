@@ -1,15 +1,23 @@
 -- What a hangup comes to, step by step: a fact is kept that bears each single step.
-use Rattle.std.proofs.Common.{◌≡◌, ℕ, Bool, true, false, if◌then◌else◌, List, [], ◌∷◌, Option, None, Some, inl, inr, refl, sym, ap, ◌∙◌}
+use Rattle.std.proofs.Common.{◌≡◌, ℕ, Bool, true, false, not, if◌then◌else◌, List, [], ◌∷◌, filter, filter_map, Option, None, Some}
+use Rattle.std.proofs.Common.{inl, inr, refl, sym, ap, ◌∙◌}
 use Rattle.std.specs.List.{find}
+use Rattle.std.proofs.lemmas.Bool.{false≢true}
 use Rattle.fs_text.specs.declared.states.State.TheVariants.{CsHangup}
 use Rattle.fs_text.specs.declared.causes.Cause.{Cause}
 use Rattle.fs_text.specs.declared.event_names.EventName.TheVariants.{ChannelExecuteComplete}
 use Rattle.fs_bridge.specs.declared.after.After.{After}
 use Rattle.fs_bridge.specs.declared.after.After.TheVariants.{GoOn, Hangup, Park}
 use Rattle.fs_bridge.specs.declared.row.Row.{Row}
-use Rattle.fs_bridge.specs.Closure.{Member, Members, Ends, closure_of}
+use Rattle.fs_bridge.specs.Closure.{Member, Members, Ends, left_by, survivor_of, members_of, closure_of}
 use Rattle.fs_bridge.specs.Hangups.{IsOneOf}
+use Rattle.fs_bridge.specs.Leaving.{parted_world, all_left, first_round}
+use Rattle.fs_bridge.specs.Orders.{has_slot}
+use Rattle.fs_bridge.specs.Worlds.{World}
+use Rattle.fs_bridge.proofs.DragLemmas.{one_order, one_in_order}
+use Rattle.fs_bridge.proofs.OnceLemmas.{has_order}
 use Rattle.fs_bridge.proofs.SettledLemmas.{one_stands}
+use Rattle.fs_bridge.proofs.SurvivorLemmas.{IsTold, one_told, left_case}
 use Rattle.fs_chan.specs.declared.chan.Chan.{Chan}
 use Rattle.fs_chan.specs.Bridging.{awaited_by, unbridged}
 use Rattle.fs_chan.specs.Changes.{is_live, at_rest, parked, hung_up}
@@ -23,7 +31,9 @@ use Rattle.fs_state.specs.Hangups.{lives, lives_at, world_of, Ended, after_end, 
 use Rattle.fs_state.specs.Hangups.{untold_by, after_member}
 use Rattle.fs_state.specs.declared.event.QueueAction.TheVariants.{Abort}
 use Rattle.fs_state.specs.Queues.{queue_event, abort_told}
+use Rattle.fs_state.specs.Leaving.{after_parting, after_partings, living_among, leaving_of, after_bridges_left}
 use Rattle.fs_machine.proofs.AbortLemmas.{abort_kept}
+use Rattle.fs_machine.proofs.ListCounts.{one_passes}
 use Rattle.fs_state.specs.Hangups.{after_members, after_outliving, after_survival, after_survivals, after_closure, living_of, after_hangups}
 use Rattle.fs_machine.proofs.ClosureLemmas.{members_for, hangs_up, survivors_stay}
 use Rattle.fs_machine.proofs.StayLemmas.{state_told_kept, differing_kept, moved_there, changed_there}
@@ -77,7 +87,7 @@ module _ (hangs : ℕ → Bool) (P : Switch → Type 0) (told : (event : Event) 
   unbridged_kept cause slot s h =
       changed_there P (unbridged cause) slot s (λ c is. settles slot c (unbridged cause c) s is (Freed cause) h) h
 
-  end_kept : (row : Row) (cause : Cause) (s : Switch) → P s → P (after_end row cause s)
+  pub end_kept : (row : Row) (cause : Cause) (s : Switch) → P s → P (after_end row cause s)
   end_kept row cause s h =
       unbridged_kept cause row.answerer (with_changed_chan (unbridged cause) row.caller (without_bridge row.number s))
       (unbridged_kept cause row.caller (without_bridge row.number s) (ends row.number s h))
@@ -163,7 +173,7 @@ module _ (hangs : ℕ → Bool) (P : Switch → Type 0) (told : (event : Event) 
   its_leg_kept cause seat slot None s h = h
   its_leg_kept cause seat slot (Some number) s h = legs cause seat slot number s h
 
-  one_hung_kept : (cause : Cause) (slot : ℕ) (s : Switch) → hangs slot ≡ true → P s → P (after_one_hangup cause slot s)
+  pub one_hung_kept : (cause : Cause) (slot : ℕ) (s : Switch) → hangs slot ≡ true → P s → P (after_one_hangup cause slot s)
   one_hung_kept cause slot s hung h = by (chan_at s slot) refl
     where
       by : (found : Option Chan) → chan_at s slot ≡ found → P (after_hangup_from cause slot found s)
@@ -179,7 +189,7 @@ module _ (hangs : ℕ → Bool) (P : Switch → Type 0) (told : (event : Event) 
           (told (hangup_event cause slot) (with_chan slot (Some (hung_up cause c)) s)
           (falls slot c (hung_up cause c) s is (Cut cause hung) h))))) h
 
-  settles_kept : (slot : ℕ) (old new : Chan) (s : Switch) → chan_at s slot ≡ Some old → Settles hangs slot old new → P s →
+  pub settles_kept : (slot : ℕ) (old new : Chan) (s : Switch) → chan_at s slot ≡ Some old → Settles hangs slot old new → P s →
       P (with_chan slot (Some new) s)
   settles_kept slot old new s there how h = falls slot old new s there (settles_falls hangs slot old new how) h
 
@@ -212,3 +222,69 @@ module _ (named : Members) (before : Switch) (P : Switch → Type 0) (told : (ev
       closure_kept (λ at. hangs_up at named before) P told falls ends legs gives_up
       (closure_of (world_of before) (living_of before named)) before (λ m one. one_stands m (members_for named before) one)
       (λ one is. survivors_stay named before one is) h
+
+-- ---- channels that leave their bridges
+
+not_true : (test : Bool) → not test ≡ true → test ≡ false
+not_true true is = absurd (false≢true is)
+not_true false is = refl
+
+-- who hangs up as these leave
+abbrev pub members_as_left : List ℕ → Switch → Members
+members_as_left slots s = (leaving_of slots s).ends.members
+
+-- a slot hangs up
+abbrev pub hangs_as_left : List ℕ → Switch → ℕ → Bool
+hangs_as_left slots s slot = has_slot slot (members_as_left slots s)
+
+-- whoever outlives a bridge does not
+pub stay_as_left : (slots : List ℕ) (s : Switch) (one : ℕ × After) → IsOneOf one (leaving_of slots s).ends.survivors →
+    hangs_as_left slots s one.0 ≡ false
+stay_as_left slots s one is =
+    let w : World = world_of s in
+    let left : List ℕ = living_among s slots in
+    let v : World = parted_world w left in
+    let named : Members = first_round w [] left in
+    let e : Ends = closure_of v named in
+    elim (one_order one e.survivors (filter (λ o. not (has_slot o.0 e.members)) (all_left w left)) is) [
+      | inl old ↦
+          let told : IsTold (survivor_of v (members_of v named)) one (members_of v named) =
+          one_told (survivor_of v (members_of v named)) one (members_of v named)
+          (one_in_order one (filter_map (survivor_of v (members_of v named)) (members_of v named)) old) in
+          has_order one.0 [] (members_of v named) ∙ (left_case (members_of v named) one (left_by v told.by) told.told).1
+      | inr new ↦ not_true (has_slot one.0 e.members)
+          (one_passes (λ (o : ℕ × After). not (has_slot o.0 e.members)) one (all_left w left) new).1
+    ]
+
+module _ (slots : List ℕ) (before : Switch) (P : Switch → Type 0) (told : (event : Event) (s : Switch) → P s → P (with_event event s))
+    (settles : (slot : ℕ) (old new : Chan) (s : Switch) → chan_at s slot ≡ Some old →
+    Settles (hangs_as_left slots before) slot old new → P s → P (with_chan slot (Some new) s))
+    (ends : (number : ℕ) (s : Switch) → P s → P (without_bridge number s))
+    (one_hung : (cause : Cause) (slot : ℕ) (s : Switch) → hangs_as_left slots before slot ≡ true → P s →
+    P (after_one_hangup cause slot s)) where
+  partings_kept_by : (parted : List Ended) (s : Switch) → P s → P (after_partings parted s)
+  partings_kept_by [] s h = h
+  partings_kept_by (e ∷ parted) s h =
+      partings_kept_by parted (after_parting e s)
+      (told (unbridge_event e) (after_end e.0 e.1 s)
+      (end_kept (hangs_as_left slots before) P told settles ends one_hung e.0 e.1 s h))
+
+  pub bridges_left_kept_by : P before → P (after_bridges_left slots before)
+  unfolding after_bridges_left
+  bridges_left_kept_by h =
+      closure_kept_by (hangs_as_left slots before) P told settles ends one_hung (leaving_of slots before).ends
+      (after_partings (leaving_of slots before).parted before) (λ m one. one_stands m (members_as_left slots before) one)
+      (λ one is. stay_as_left slots before one is) (partings_kept_by (leaving_of slots before).parted before h)
+
+module _ (slots : List ℕ) (before : Switch) (P : Switch → Type 0) (told : (event : Event) (s : Switch) → P s → P (with_event event s))
+    (falls : (slot : ℕ) (old new : Chan) (s : Switch) → chan_at s slot ≡ Some old →
+    Falls (hangs_as_left slots before) slot old new → P s → P (with_chan slot (Some new) s))
+    (ends : (number : ℕ) (s : Switch) → P s → P (without_bridge number s))
+    (legs : (cause : Cause) (seat slot number : ℕ) (s : Switch) → P s →
+    P (orig_changed (dies cause seat slot) number s))
+    (gives_up : (number : ℕ) (s : Switch) → P s → P (without_orig number s)) where
+  pub bridges_left_kept : P before → P (after_bridges_left slots before)
+  bridges_left_kept h =
+      bridges_left_kept_by slots before P told
+      (settles_kept (hangs_as_left slots before) P told falls ends legs gives_up) ends
+      (one_hung_kept (hangs_as_left slots before) P told falls ends legs gives_up) h

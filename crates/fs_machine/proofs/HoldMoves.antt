@@ -1,11 +1,10 @@
 -- Each act leaves it so that whoever waits for the end of a bridge names a peer.
-use Rattle.std.proofs.Common.{◌≡◌, ℕ, true, Bool, false, List, [], ◌∷◌, ◌++◌, map, Option, None, Some, is_some, unwrap_or}
+use Rattle.std.proofs.Common.{◌≡◌, ℕ, true, Bool, false, List, [], ◌∷◌, Option, None, Some, is_some, unwrap_or}
 use Rattle.std.proofs.Common.{◌⊎◌, inl, inr, refl, sym, ap, subst, ◌∙◌}
 use Rattle.std.proofs.lemmas.Option.{same_Some}
 use Rattle.fs_text.specs.Texts.{Text}
 use Rattle.fs_text.specs.Cause.{cause_name}
 use Rattle.fs_text.specs.declared.causes.Cause.{Cause}
-use Rattle.fs_text.specs.declared.causes.Cause.TheVariants.{OriginatorCancel}
 use Rattle.fs_bridge.specs.declared.row.BridgeKind.{BridgeKind}
 use Rattle.fs_bridge.specs.declared.row.BridgeKind.TheVariants.{Dial}
 use Rattle.fs_bridge.specs.Closure.{Members}
@@ -33,7 +32,7 @@ use Rattle.fs_state.specs.declared.job.JobWork.{JobWork}
 use Rattle.fs_state.specs.declared.job.JobWork.TheVariants.{Originate}
 use Rattle.fs_state.specs.Switch.{Switch, chan_at, with_bridge, next_orig_number, without_orig, with_new_job, without_job}
 use Rattle.fs_state.specs.Moves.{after_move, orig_changed, leg_changed}
-use Rattle.fs_state.specs.Hangups.{legs_at, after_hangups}
+use Rattle.fs_state.specs.Hangups.{after_hangups}
 use Rattle.fs_state.specs.Bridging.{peer_of, with_peer_from, with_peer, joined_as}
 use Rattle.fs_machine.specs.Texts.{made_text, failed_text}
 use Rattle.fs_machine.specs.Connections.{conn_changed, admitted, parted, owed_since, not_owed, with_subs_changed}
@@ -43,13 +42,12 @@ use Rattle.fs_machine.specs.Attempts.{first_group, orig_begun, originate_begun}
 use Rattle.fs_machine.specs.Bridging.{caller_of, group_dialed, goes_on, after_going_on, disposed, bridge_failed_from, after_bridge_failure}
 use Rattle.fs_machine.specs.Bridging.{after_bridge_win}
 use Rattle.fs_machine.specs.Dialing.{tried_by_slot}
-use Rattle.fs_machine.specs.Joining.{after_leaving, both_left}
-use Rattle.fs_machine.specs.Leaving.{after_departure}
+use Rattle.fs_machine.specs.Joining.{after_departures}
 use Rattle.fs_machine.specs.declared.owing.Giver.{Giver}
 use Rattle.fs_machine.specs.declared.owing.Giver.TheVariants as giver
 use Rattle.fs_machine.specs.Owing.{job_number, after_job_begin, background_begun, after_job_end}
 use Rattle.fs_machine.proofs.Kept.{Stage, Fact, hold_in, Links, Keeps, KeptByTouches, KeptByCalls, KeptByBirths, raced, KeptByJobs, KeptByDials}
-use Rattle.fs_machine.proofs.Kept.{apart_by, goes_on_by, let_go_by, KeptByApi, KeptByCommands, KeptByMoves}
+use Rattle.fs_machine.proofs.Kept.{none_joined_by, goes_on_by, let_go_by, KeptByApi, KeptByCommands, KeptByMoves}
 use Rattle.fs_machine.proofs.StayLemmas.{moved_there, changed_there, orig_changed_channels, held_keeps}
 use Rattle.fs_machine.proofs.CameLemmas.{rest_holds}
 use Rattle.fs_machine.proofs.ClosureLemmas.{NoneAtZero}
@@ -61,7 +59,7 @@ use Rattle.fs_machine.proofs.LegLemmas.{Channels}
 use Rattle.fs_machine.proofs.PartnerMoves.{zero_put, not_zero}
 use Rattle.fs_machine.proofs.BondTables.{Bonds, Bonding, NoSlot}
 use Rattle.fs_machine.proofs.BondMoves.{bonds_touches}
-use Rattle.fs_machine.proofs.HoldLemmas.{IsUnheld, HeldBut, held_lives, hung_held, left_held, departed_held}
+use Rattle.fs_machine.proofs.HoldLemmas.{IsUnheld, HeldBut, held_lives, hung_held, departed_held}
 
 -- ---- the fact
 
@@ -149,15 +147,6 @@ won_held slot leg s h =
 hung_all : (named : Members) (s : Switch) → Bonds s → NoneAtZero s → AllHeld s → AllHeld (after_hangups named s)
 hung_all named s bonds zero h =
     as_all (after_hangups named s) (hung_held NoSlot named s bonds zero (held_lives s bonds (as_but s h)) (as_but s h))
-
-left_all : (slot : ℕ) (s : Switch) → AllHeld s → AllHeld (after_leaving slot s)
-left_all slot s h = as_all (after_leaving slot s) (left_held slot s (λ at c there held. inr (h at c there held)))
-
-both_left_held : (a b : ℕ) (s : Switch) → Bonds s → NoneAtZero s → AllHeld s → AllHeld (both_left a b s)
-both_left_held a b s bonds zero h =
-    let named : Members = map (λ slot. (slot, OriginatorCancel)) (legs_at s a ++ legs_at s b) in
-    let t : Switch = after_hangups named s in
-    left_all b (after_leaving a t) (left_all a t (hung_all named s bonds zero h))
 
 -- a channel has failed to bridge
 failed_held : (cause : Cause) (slot : ℕ) (s : Switch) → Bonds s → NoneAtZero s → AllHeld s → AllHeld (after_bridge_failure cause slot s)
@@ -275,18 +264,13 @@ module _ (before : Switch) (Q : Fact) (kept : KeptByMoves before Q) (bonds : (b 
     touches = holding_touches;
     hung = λ named {s = s} early h.
         (kept.calls.hung named early.0 h.0, hung_all named s (bonds (Some 0) s h.0) (zero (Some 0) s h.0) h.1);
-    joined = λ kind caller answerer c d {s = s} can there other one two first second was were h. (
-      kept.calls.joined kind caller answerer c d can there other one two first second (apart_by caller was (λ t k. k.0))
-          (apart_by answerer were (λ t k. k.0)) h.0,
+    joined = λ kind caller answerer c d {s = s} can there other one two first second was h. (
+      kept.calls.joined kind caller answerer c d can there other one two first second (none_joined_by was (λ t k. k.0)) h.0,
       joined_held kind caller answerer s h.1,
     );
-    leaves = λ one other {s = s} first second early h. (
-      kept.calls.leaves one other first second early.0 h.0,
-      both_left_held one other s (bonds (Some 0) s h.0) (zero (Some 0) s h.0) h.1,
-    );
-    departs = λ slot {s = s} early h. (
-      kept.calls.departs slot early.0 h.0,
-      as_all (after_departure slot s) (departed_held slot s (bonds (Some 0) s h.0) (zero (Some 0) s h.0) (as_but s h.1)),
+    departs = λ slots {s = s} early h. (
+      kept.calls.departs slots early.0 h.0,
+      as_all (after_departures slots s) (departed_held slots s (bonds (Some 0) s h.0) (zero (Some 0) s h.0) (as_but s h.1)),
     );
     more = λ h. (kept.calls.more h.0, h.1);
     gone = λ slot old {s = s} there dead early h. (

@@ -15,15 +15,16 @@ use Rattle.fs_seats.proofs.HeldLemmas.{IsFree, held_there}
 use Rattle.fs_state.specs.Switch.{Switch, chan_at, with_chan, with_next_identifier, identifier_of}
 use Rattle.fs_state.specs.Moves.{after_move_from, after_move, orig_changed}
 use Rattle.fs_state.specs.Hangups.{after_hangups}
+use Rattle.fs_state.specs.Leaving.{after_bridges_left}
 use Rattle.fs_machine.specs.declared.call.Call.{Call}
 use Rattle.fs_machine.specs.declared.originations.End.{End}
 use Rattle.fs_machine.specs.Originations.{end_of, end_made, named_end_made, leg_end, far_end, pair_made, is_misnamed, won_by, after_winning}
 use Rattle.fs_machine.proofs.Kept.{Stage, Fact, KeptByBirths, raced, KeptByMoves}
 use Rattle.fs_machine.proofs.StayLemmas.{state_told_kept, moved_there}
 use Rattle.fs_machine.proofs.ClosureLemmas.{hangs_up}
-use Rattle.fs_machine.proofs.HangLemmas.{dies, Falls, Cut, Unbridged, Rests, Parks, hangups_kept}
+use Rattle.fs_machine.proofs.HangLemmas.{dies, Falls, Cut, Unbridged, Rests, Parks, hangups_kept, bridges_left_kept, hangs_as_left}
 use Rattle.fs_machine.proofs.FrontLemmas.{Front, front_of, orig_changed_front, KeptByRemains, joins_by_remains, calls_by_remains}
-use Rattle.fs_machine.proofs.FrontLemmas.{dials_by_remains, moves_by_front, parts_by_remains}
+use Rattle.fs_machine.proofs.FrontLemmas.{dials_by_remains, moves_by_front}
 use Rattle.fs_machine.proofs.SeenLemmas.{Seen, seen, put, Numbers, numbers_then, numbers_quietly, numbers_more, numbers_same, numbers_gone}
 use Rattle.fs_machine.proofs.SeenLemmas.{numbers_new, numbers_named, numbers_drawn}
 use Rattle.fs_machine.proofs.NameLemmas.{name_foreign, name_unheld, leg_chan, with_leg, leg_channels}
@@ -91,6 +92,15 @@ module _ (x : Seen) where
       (orig_changed_front (dies cause seat leg) number t) k)
       (λ number t k. k) h
 
+  bridges_left_numbers : (more : ℕ) (slots : List ℕ) (s : Switch) → Numbers more x (seen s) →
+      Numbers more x (seen (after_bridges_left slots s))
+  bridges_left_numbers more slots s h =
+      bridges_left_kept slots s (λ (t : Switch). Numbers more x (seen t)) (λ event t k. k)
+      (λ seat old new t there falls k. falls_numbers (hangs_as_left slots s) more seat old new t there falls k) (λ number t k. k)
+      (λ cause seat leg number t k. front_numbers more t (orig_changed (dies cause seat leg) number t)
+      (orig_changed_front (dies cause seat leg) number t) k)
+      (λ number t k. k) h
+
   won_numbers : (winner : Winner) (slot : ℕ) (s : Switch) → Numbers 0 x (seen s) → Numbers 0 x (seen (after_winning winner slot s))
   unfolding after_winning
   won_numbers winner slot s h = by (chan_at s slot) refl
@@ -122,11 +132,9 @@ module _ (x : Seen) where
         joins_by_remains (NumbersFrom x) (λ event b t k. k) (λ rows b t k. k)
         (λ slot old new b t there remains holder k. put_numbers (freed_by b) slot old new t there remains.uuid k)
         kind caller answerer b s h;
-    parts = λ slot row {b = b} {s = s} part h.
-        parts_by_remains (NumbersFrom x) (λ event b t k. k) (λ rows b t k. k)
-        (λ slot old new b t there remains holder k. put_numbers (freed_by b) slot old new t there remains.uuid k) row b s h;
     remains = λ slot old new {b = b} {s = s} there remains holder h. put_numbers (freed_by b) slot old new s there remains.uuid h;
     hung = λ named {b = b} {s = s} h. hung_numbers (freed_by b) named s h;
+    leaves = λ slots {b = b} {s = s} h. bridges_left_numbers (freed_by b) slots s h;
     more = λ {s = s} h. numbers_more x (seen s) h;
     gone = λ slot old {s = s} there dead h. numbers_then x (seen s) (put slot None (seen s)) h (numbers_gone (seen s) slot old there);
   }

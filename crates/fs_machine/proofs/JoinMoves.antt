@@ -13,13 +13,12 @@ use Rattle.fs_state.specs.Bridging.{joined_as}
 use Rattle.fs_machine.specs.declared.entry.Act.{Act}
 use Rattle.fs_machine.specs.Bridging.{group_dialed, after_bridge_win, after_bridge_failure}
 use Rattle.fs_machine.specs.Dialing.{tried_by_slot}
-use Rattle.fs_machine.specs.Joining.{both_left}
-use Rattle.fs_machine.specs.Leaving.{after_departure}
+use Rattle.fs_machine.specs.Joining.{after_departures}
 use Rattle.fs_machine.specs.Originations.{pair_made, group_made, after_winning}
 use Rattle.fs_machine.specs.Attempts.{first_group, with_group}
 use Rattle.fs_machine.specs.Step.{act_done}
 use Rattle.fs_machine.proofs.ActWalk.{acted_kept}
-use Rattle.fs_machine.proofs.DrawnLemmas.{SameDrawn, orig_changed_drawn, moved_drawn, hung_drawn, both_left_drawn, departed_drawn, won_drawn}
+use Rattle.fs_machine.proofs.DrawnLemmas.{SameDrawn, orig_changed_drawn, moved_drawn, hung_drawn, departed_drawn, won_drawn}
 use Rattle.fs_machine.proofs.DrawnLemmas.{joined_drawn, drawn_touches, failure_drawn, pair_drawn, regrouped_drawn, dialed_drawn}
 use Rattle.fs_machine.proofs.FrontLemmas.{Front, moves_by_front}
 use Rattle.fs_machine.proofs.Kept.{Stage, Fact, KeptByTouches, KeptByCalls, KeptByBirths, KeptByDials, KeptByMoves, raced}
@@ -65,11 +64,9 @@ module _ (before : Switch) where
   calls = record {
     touches = touches;
     hung = λ named {s = s} early h. counts_same (Some 0) s (after_hangups named s) h (hung_drawn named s);
-    joined = λ kind caller answerer c d {s = s} can there other one two first second was were h.
+    joined = λ kind caller answerer c d {s = s} can there other one two first second was h.
         joined_counts kind caller answerer 0 s (was.drawn ∙ was.first);
-    leaves = λ one other {s = s} first second early h.
-        counts_same (Some 0) s (both_left one other s) h (both_left_drawn one other s first second);
-    departs = λ slot {s = s} early h. counts_same (Some 0) s (after_departure slot s) h (departed_drawn slot s);
+    departs = λ slots {s = s} early h. counts_same (Some 0) s (after_departures slots s) h (departed_drawn slots s);
     more = λ h. h;
     gone = λ slot old {s = s} there dead early h. counts_same (Some 1) s (with_chan slot None s) h refl;
   }

@@ -39,7 +39,7 @@ use Rattle.fs_state.specs.declared.job.Asker.TheVariants as asker
 use Rattle.fs_state.specs.declared.job.Background.{Background}
 use Rattle.fs_state.specs.declared.job.JobWork.{JobWork}
 use Rattle.fs_state.specs.declared.job.JobWork.TheVariants as work
-use Rattle.fs_state.specs.Switch.{Switch, chan_at, with_chan, bridge_at, is_full_of_jobs, is_full_of_conns, job_of, without_job, without_conn}
+use Rattle.fs_state.specs.Switch.{Switch, chan_at, with_chan, is_full_of_jobs, is_full_of_conns, job_of, without_job, without_conn}
 use Rattle.fs_state.specs.Switch.{with_frame_taken}
 use Rattle.fs_state.specs.Switch.{with_event}
 use Rattle.fs_state.specs.Switch.{next_orig_number, orig_of, without_orig, with_frame_now, with_notice, with_next_identifier}
@@ -60,8 +60,7 @@ use Rattle.fs_machine.specs.Originations.{pair_made, is_misnamed, target_of, gro
 use Rattle.fs_machine.specs.Bridging.{after_bridge_failure, after_bridge_win, group_dialed}
 use Rattle.fs_machine.specs.Attempts.{first_group, originate_begun, awaits, failed_for, won_in, won_for, death_of, with_group}
 use Rattle.fs_machine.specs.Dialing.{tried_by_slot}
-use Rattle.fs_machine.specs.Joining.{both_left}
-use Rattle.fs_machine.specs.Leaving.{after_departure}
+use Rattle.fs_machine.specs.Joining.{after_departures}
 use Rattle.fs_machine.specs.Owing.{after_job_begin, background_begun, after_job_end}
 use Rattle.fs_machine.specs.Step.{arrived}
 use Rattle.fs_machine.specs.Sound.{is_idle, HasLeg}
@@ -149,11 +148,6 @@ IsOfNoBridge _ = Unit {0}
 abbrev pub TellsNoBridge : Event → Type 0
 TellsNoBridge event = (can_tell event.name event.detail ≡ true) × IsOfNoBridge event.detail
 
--- a slot is in no bridge, and its channel is no leg of an origination that is not yet decided
-pub record IsApart (s : Switch) (slot : ℕ) : Type 0 where
-  pub bridge : bridge_at s slot ≡ None
-  pub lone : (c : Chan) → chan_at s slot ≡ Some c → c.leg_of ≡ None
-
 -- what happens to a channel and leaves it what it is to others
 pub record KeptByTouches (P : Fact) : Type 0 where
   pub told : (event : Event) {b : Stage} {s : Switch} → TellsNoBridge event → P b s → P b (with_event event s)
@@ -163,16 +157,15 @@ pub record KeptByTouches (P : Fact) : Type 0 where
   pub answers : (seat slot number : ℕ) {b : Stage} {s : Switch} → P b s →
       P b (orig_changed (leg_changed (λ position. with_answer position seat) slot) number s)
 
--- a slot was in no bridge before anything had begun in the entry, and none was joined since then
-pub record WasApart (P : Fact) (s : Switch) (slot : ℕ) : Type 0 where
+-- no bridge was joined since nothing had begun in the entry
+pub record NoneJoined (P : Fact) (s : Switch) : Type 0 where
   pub past : Switch
   pub first : P None past
-  pub apart : bridge_at past slot ≡ None
   pub drawn : s.bridges.drawn ≡ past.bridges.drawn
 
--- so it was by what a fact tells
-pub apart_by : {P Q : Fact} {s : Switch} (slot : ℕ) → WasApart P s slot → ((t : Switch) → P None t → Q None t) → WasApart Q s slot
-apart_by slot was tells = record { past = was.past; first = tells was.past was.first; apart = was.apart; drawn = was.drawn }
+-- so it is by what a fact tells
+pub none_joined_by : {P Q : Fact} {s : Switch} → NoneJoined P s → ((t : Switch) → P None t → Q None t) → NoneJoined Q s
+none_joined_by was tells = record { past = was.past; first = tells was.past was.first; drawn = was.drawn }
 
 -- what channels do, and what is done to them
 pub record KeptByCalls (P : Fact) : Type 0 where
@@ -180,10 +173,9 @@ pub record KeptByCalls (P : Fact) : Type 0 where
   pub hung : (named : Members) {s : Switch} → P None s → P (Some 0) s → P (Some 0) (after_hangups named s)
   pub joined : (kind : BridgeKind) (caller answerer : ℕ) (c d : Chan) {s : Switch} → can_join caller answerer s ≡ true →
       chan_at s caller ≡ Some c → chan_at s answerer ≡ Some d → c.leg_of ≡ None → d.leg_of ≡ None →
-      awaited_by c ≡ None → awaited_by d ≡ None → WasApart P s caller → WasApart P s answerer → P (Some 0) s →
+      awaited_by c ≡ None → awaited_by d ≡ None → NoneJoined P s → P (Some 0) s →
       P (Some 0) (joined_as kind caller answerer s)
-  pub leaves : (one other : ℕ) {s : Switch} → IsApart s one → IsApart s other → P None s → P (Some 0) s → P (Some 0) (both_left one other s)
-  pub departs : (slot : ℕ) {s : Switch} → P None s → P (Some 0) s → P (Some 0) (after_departure slot s)
+  pub departs : (slots : List ℕ) {s : Switch} → P None s → P (Some 0) s → P (Some 0) (after_departures slots s)
   pub more : {s : Switch} → P (Some 0) s → P (Some 1) s
   pub gone : (slot : ℕ) (old : Chan) {s : Switch} → chan_at s slot ≡ Some old → is_live old ≡ false → P None s → P (Some 0) s →
       P (Some 1) (with_chan slot None s)

@@ -14,6 +14,7 @@ use Rattle.fs_seats.specs.Rows.{seat_of}
 use Rattle.fs_seats.proofs.HeldLemmas.{held_here, held_there, held_within}
 use Rattle.fs_state.specs.Switch.{Switch, chan_at, with_chan}
 use Rattle.fs_state.specs.Hangups.{after_hangups}
+use Rattle.fs_state.specs.Leaving.{after_bridges_left}
 use Rattle.fs_state.proofs.LegTables.{berthed, berth_if, berth_of, berth_in, berth_at, row_there}
 use Rattle.fs_machine.specs.Attempts.{death_of}
 use Rattle.fs_machine.specs.Sound.{HasLeg, IsLegIn, LegsAreChannels}
@@ -22,7 +23,7 @@ use Rattle.fs_machine.proofs.Kept.{raced, HasWon}
 use Rattle.fs_machine.proofs.StayLemmas.{hangup_dead, park_lives, orig_changed_channels}
 use Rattle.fs_machine.proofs.ClosureLemmas.{hangs_up}
 use Rattle.fs_machine.proofs.HangLemmas.{dies, Falls, Cut, Unbridged, Rests, Parks, Settles, Freed, Resumes, Halts, hangups_kept}
-use Rattle.fs_machine.proofs.HangLemmas.{hangups_kept_by}
+use Rattle.fs_machine.proofs.HangLemmas.{hangups_kept_by, hangs_as_left, bridges_left_kept_by}
 use Rattle.fs_machine.proofs.LegLemmas.{Channels, roles_of, IsLegOf, LegsStand, put_legs, one_hung_legs}
 
 -- ---- whoever hangs up
@@ -39,6 +40,12 @@ pub hung_legs : (named : Members) (s : Switch) → LegsStand (roles_of s) → Le
 hung_legs named s h =
     hangups_kept_by named s (λ (t : Switch). LegsStand (roles_of t)) (λ event t k. k)
     (λ slot old new t there how k. settles_leg (λ at. hangs_up at named s) slot old new t there how k) (λ number t k. k)
+    (λ cause slot t hangs k. one_hung_legs cause slot t k) h
+
+pub bridges_left_legs : (slots : List ℕ) (s : Switch) → LegsStand (roles_of s) → LegsStand (roles_of (after_bridges_left slots s))
+bridges_left_legs slots s h =
+    bridges_left_kept_by slots s (λ (t : Switch). LegsStand (roles_of t)) (λ event t k. k)
+    (λ slot old new t there how k. settles_leg (hangs_as_left slots s) slot old new t there how k) (λ number t k. k)
     (λ cause slot t hangs k. one_hung_legs cause slot t k) h
 
 -- ---- others lose the race

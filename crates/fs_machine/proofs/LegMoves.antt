@@ -38,6 +38,7 @@ use Rattle.fs_state.specs.Switch.{with_bridge, with_new_conn}
 use Rattle.fs_state.specs.Moves.{after_move_from, orig_changed_from, orig_changed, leg_changed, with_changed_chan, after_move}
 use Rattle.fs_state.specs.Moves.{orig_given_up}
 use Rattle.fs_state.specs.Hangups.{after_hangups}
+use Rattle.fs_state.specs.Leaving.{after_bridges_left}
 use Rattle.fs_state.specs.Bridging.{peer_of, with_peer_from, with_peer, joined_as}
 use Rattle.fs_state.proofs.LegTables.{berthed, berth_at, in_slot, berth_number, without_fewer}
 use Rattle.fs_machine.specs.Texts.{made_text, failed_text}
@@ -51,19 +52,17 @@ use Rattle.fs_machine.specs.Owing.{job_number, after_job_begin, background_begun
 use Rattle.fs_machine.specs.Bridging.{caller_of, group_dialed, goes_on, after_going_on, bridge_failed_from, after_bridge_failure}
 use Rattle.fs_machine.specs.Bridging.{after_bridge_win, disposed}
 use Rattle.fs_machine.specs.Dialing.{tried_by_slot}
-use Rattle.fs_machine.specs.Joining.{after_leaving}
-use Rattle.fs_machine.specs.Leaving.{after_departure}
+use Rattle.fs_machine.specs.Joining.{after_leaving, after_departures}
 use Rattle.fs_machine.proofs.LeaveLemmas.{departed_kept}
 use Rattle.fs_machine.proofs.FrontLemmas.{conn_unread}
 use Rattle.fs_machine.proofs.Kept.{Fact, Links, KeptByTouches, KeptByCalls, KeptByBirths, KeptByApi, KeptByDials, raced, KeptByMoves}
-use Rattle.fs_machine.proofs.JoinLemmas.{both_left_kept}
 use Rattle.fs_machine.proofs.StayLemmas.{state_told_kept, moved_there, changed_there, orig_changed_channels}
-use Rattle.fs_machine.proofs.HangLemmas.{dies, given_up_kept, hangups_kept}
+use Rattle.fs_machine.proofs.HangLemmas.{dies, given_up_kept, hangups_kept, bridges_left_kept}
 use Rattle.fs_machine.proofs.Walk.{disposed_kept, group_made_kept}
 use Rattle.fs_machine.proofs.LegLemmas.{Channels, Roles, roles_of, IsLegOf, LegsStand, no_legs, legs_cut, legs_follow, free_follows, put_legs}
 use Rattle.fs_machine.proofs.LegLemmas.{without_legs, given_up_legs, answered_legs}
 use Rattle.fs_machine.proofs.LegBirths.{pair_roles, pair_legs, GroupStands, group_stands, new_orig_legs, regrouped_legs}
-use Rattle.fs_machine.proofs.LegHangups.{settles_leg, hung_legs, winning_leg}
+use Rattle.fs_machine.proofs.LegHangups.{hung_legs, bridges_left_legs, winning_leg}
 use Rattle.fs_machine.proofs.WonLemmas.{bridge_won_kept}
 
 -- ---- what draws no number of an origination
@@ -78,6 +77,11 @@ orig_changed_drawn change number s = by (orig_of s number)
 pub hung_drawn : (named : Members) (s : Switch) → (after_hangups named s).drawn.origs ≡ s.drawn.origs
 hung_drawn named s =
     hangups_kept named s (λ (t : Switch). t.drawn.origs ≡ s.drawn.origs) (λ event t k. k) (λ slot old new t there falls k. k)
+    (λ number t k. k) (λ cause seat slot number t k. orig_changed_drawn (dies cause seat slot) number t ∙ k) (λ number t k. k) refl
+
+bridges_left_drawn : (slots : List ℕ) (s : Switch) → (after_bridges_left slots s).drawn.origs ≡ s.drawn.origs
+bridges_left_drawn slots s =
+    bridges_left_kept slots s (λ (t : Switch). t.drawn.origs ≡ s.drawn.origs) (λ event t k. k) (λ slot old new t there falls k. k)
     (λ number t k. k) (λ cause seat slot number t k. orig_changed_drawn (dies cause seat slot) number t ∙ k) (λ number t k. k) refl
 
 pub given_up_drawn : (slot : ℕ) (awaited : Option ℕ) (s : Switch) → (orig_given_up slot awaited s).drawn.origs ≡ s.drawn.origs
@@ -168,11 +172,13 @@ left_legs slot s h =
     changed_legs at_leisure slot t (record { leg = λ c. refl; live = λ c. refl })
     (legs_then s t (given_up_drawn slot awaited s) (given_up_legs slot awaited s) h)
 
-departed_legs : (slot : ℕ) (s : Switch) → Stand (roles_of s) → Stand (roles_of (after_departure slot s))
-departed_legs slot s h =
-    departed_kept (λ (t : Switch). Stand (roles_of t)) (λ event t k. k)
-    (λ at old new t there settles k few. settles_leg (λ seat. false) at old new t there settles (k few)) (λ number t k. k) hung_stand
-    left_legs slot s h
+bridges_left_stand : (slots : List ℕ) (s : Switch) → Stand (roles_of s) → Stand (roles_of (after_bridges_left slots s))
+bridges_left_stand slots s h =
+    legs_then s (after_bridges_left slots s) (bridges_left_drawn slots s) (bridges_left_legs slots s) h
+
+departed_legs : (slots : List ℕ) (s : Switch) → Stand (roles_of s) → Stand (roles_of (after_departures slots s))
+departed_legs slots s h =
+    departed_kept (λ (t : Switch). Stand (roles_of t)) (λ event t k. k) left_legs hung_stand bridges_left_stand slots s h
 
 -- ---- bridges
 
@@ -415,10 +421,8 @@ legs_calls : KeptByCalls Legs
 legs_calls = record {
   touches = legs_touches;
   hung = λ named {s = s} early h. hung_stand named s h;
-  joined = λ kind caller answerer c d {s = s} can one two lone alone first second was were h. joined_legs kind caller answerer s h;
-  leaves = λ one other {s = s} first second early h.
-      both_left_kept (λ (t : Switch). Stand (roles_of t)) hung_stand (λ slot t apart k. left_legs slot t k) one other s first second h;
-  departs = λ slot {s = s} early h. departed_legs slot s h;
+  joined = λ kind caller answerer c d {s = s} can one two lone alone first second was h. joined_legs kind caller answerer s h;
+  departs = λ slots {s = s} early h. departed_legs slots s h;
   more = λ h. h;
   gone = λ slot old {s = s} there dead early h few.
       legs_follow (roles_of s) (with_held s.channels slot None)

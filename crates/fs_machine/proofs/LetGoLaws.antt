@@ -1,23 +1,25 @@
 -- In every run an entry that tells the end of a bridge has let go of both legs.
-use Rattle.std.proofs.Common.{◌≡◌, ◌+◌, List, [], ◌∷◌, ◌++◌, refl, sym, subst}
+use Rattle.std.proofs.Common.{◌≡◌, ℕ, ◌+◌, List, [], ◌∷◌, ◌++◌, None, ◌⊎◌, inl, inr, refl, sym, subst}
+use Rattle.fs_text.specs.declared.causes.Cause.{Cause}
 use Rattle.fs_doc.specs.Limits.{IsWithin}
 use Rattle.fs_doc.specs.Reading.{Configuration}
 use Rattle.fs_bridge.specs.Hangups.{IsOneOf}
 use Rattle.fs_chan.specs.declared.chan.Chan.{Chan}
+use Rattle.fs_seats.specs.Seats.{held_in}
 use Rattle.fs_seats.proofs.HeldLemmas.{nothing_held}
 use Rattle.fs_state.specs.declared.event.Event.{Event}
 use Rattle.fs_state.specs.Switch.{Switch, empty, at_moment}
 use Rattle.fs_machine.specs.declared.entry.Entry.{Entry}
 use Rattle.fs_machine.specs.Events.{events_by}
-use Rattle.fs_machine.specs.FirstEnds.{EndsAreRecorded}
+use Rattle.fs_machine.specs.FirstEnds.{IsJoinedSince, IsLetGo, EndsAreRecorded}
 use Rattle.fs_machine.specs.Step.{act_done, step}
 use Rattle.fs_machine.specs.Runs.{run_from, IsRunFrom}
 use Rattle.fs_machine.proofs.ActWalk.{acted_kept}
 use Rattle.fs_machine.proofs.RunLemmas.{run_more}
 use Rattle.fs_machine.proofs.FramesLaws.{run_front}
 use Rattle.fs_machine.proofs.StandingLemmas.{Standing, standing_empty, standing_step, standing_run}
-use Rattle.fs_machine.proofs.LetGoLemmas.{LimitedIn, Limited}
-use Rattle.fs_machine.proofs.LetGoMoves.{NoEnds, EndedIn, ending_moves}
+use Rattle.fs_machine.proofs.LetGoLemmas.{LimitedIn, Limited, Tells}
+use Rattle.fs_machine.proofs.LetGoMoves.{NoEnds, Freed, EndedIn, ending_moves}
 
 -- no event is left in hand, and the variables of all channels keep their limits
 record IsQuiet (s : Switch) : Type 0 where
@@ -31,12 +33,11 @@ none_told news over row cause event one is = subst (IsOneOf event) over one
 -- what an entry does
 acted_ends : (entry : Entry) (s : Switch) → Standing s → IsQuiet s →
     EndedIn (at_moment entry.moment s) (act_done entry.act (at_moment entry.moment s)).state.channels
-    (act_done entry.act (at_moment entry.moment s)).state.news
+    (act_done entry.act (at_moment entry.moment s)).state.bridges (act_done entry.act (at_moment entry.moment s)).state.news
 acted_ends entry s h quiet =
     let now : Switch = at_moment entry.moment s in
     acted_kept now _
     (ending_moves now
-    (record { apt = h.bonds.apt; rows = h.bonds.rows; legs = h.bonds.legs; back = h.bonds.back }) h.legs
     (record {
       fit = h.bonds.rows;
       stood = λ slot row is. is;
@@ -60,9 +61,21 @@ step_recorded s entry h quiet row cause event one is =
     record {
       caller_was = ended.caller_was;
       answerer_was = ended.answerer_was;
-      caller = ended.caller;
-      answerer = ended.answerer;
+      caller = let_go row.caller cause ended.caller;
+      answerer = let_go row.answerer cause ended.answerer;
     }
+  where
+    t : Switch
+    t = (act_done entry.act (at_moment entry.moment s)).state
+
+    freed : (slot : ℕ) (c : Chan) → Freed (at_moment entry.moment s) t.bridges slot c →
+        (c.peer ≡ None) ⊎ IsJoinedSince s (step s entry).state slot
+    freed slot c (inl none) = inl none
+    freed slot c (inr joined) = inr (record { row = joined.row; part = joined.part; number = joined.number })
+
+    let_go : (slot : ℕ) (cause : Cause) → Tells (Freed (at_moment entry.moment s) t.bridges slot) (held_in t.channels slot) cause →
+        IsLetGo s (step s entry).state slot cause
+    let_go slot cause go = record { chan = go.chan; there = go.there; apart = freed slot go.chan go.apart; told = go.told }
 
 step_quiet : (s : Switch) (entry : Entry) → Standing s → IsQuiet s → IsQuiet (step s entry).state
 unfolding step

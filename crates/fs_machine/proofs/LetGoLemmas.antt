@@ -1,14 +1,14 @@
 -- The legs of a bridge that ends are let go: they name no peer any more, and a variable tells the cause. So it is with all bridges that an
 -- entry ends, until two are joined in it.
-use Rattle.std.proofs.Common.{◌≡◌, ◌≢◌, ℕ, ◌+◌, ◌≤◌, Bool, true, false, not, if◌then◌else◌, List, [], ◌∷◌, count_by, Option, None, Some}
-use Rattle.std.proofs.Common.{option_and_then, ◌⊎◌, inl, inr, codes, refl, sym, ap, subst, ◌∙◌, arith}
+use Rattle.std.proofs.Common.{◌≡◌, ◌≢◌, ℕ, ◌+◌, ◌≤◌, Bool, true, false, not, if◌then◌else◌, List, [], ◌∷◌, map, count_by, Option, None}
+use Rattle.std.proofs.Common.{Some, option_and_then, ◌⊎◌, inl, inr, codes, refl, sym, ap, subst, ◌∙◌, arith}
 use Rattle.std.specs.List.{find}
 use Rattle.std.proofs.lemmas.Bool.{cases_eq}
 use Rattle.std.proofs.lemmas.Cmp.{nat_eq_equiv}
 use Rattle.std.proofs.lemmas.Option.{none-some, same_Some}
 use Rattle.fs_text.specs.declared.states.State.TheVariants.{CsHangup}
 use Rattle.fs_text.specs.declared.causes.Cause.{Cause}
-use Rattle.fs_text.specs.declared.causes.Cause.TheVariants.{NormalClearing}
+use Rattle.fs_text.specs.declared.causes.Cause.TheVariants.{NormalClearing, OriginatorCancel}
 use Rattle.fs_text.specs.declared.event_names.EventName.{EventName}
 use Rattle.fs_text.specs.declared.event_names.EventName.TheVariants.{ChannelExecuteComplete}
 use Rattle.fs_text.specs.Cause.{cause_name}
@@ -38,34 +38,49 @@ use Rattle.fs_state.specs.Switch.{Switch, chan_at, with_chan, bridge_at, without
 use Rattle.fs_state.specs.Moves.{plain_event, with_changed_chan_from, with_changed_chan, after_move, with_state_events, hangup_event}
 use Rattle.fs_state.specs.Moves.{application_event, running_at, its_leg_changed, leg_changed, orig_given_up, after_hangup_from}
 use Rattle.fs_state.specs.Moves.{after_one_hangup, after_completion}
-use Rattle.fs_state.specs.Hangups.{lives_at, world_of, living_of, row_at, Ended, after_end, after_ends, unbridge_event, is_leg_of}
+use Rattle.fs_state.specs.Hangups.{lives_at, world_of, living_of, Ended, after_end, after_ends, unbridge_event, is_leg_of}
 use Rattle.fs_state.specs.Hangups.{with_end_told, untold_by, after_member, after_members, after_outliving, after_survival, after_survivals}
 use Rattle.fs_state.specs.declared.event.QueueAction.TheVariants.{Abort}
-use Rattle.fs_state.specs.Queues.{queue_event, abort_told}
-use Rattle.fs_machine.proofs.AbortLemmas.{abort_kept}
+use Rattle.fs_state.specs.Queues.{queue_event, queue_at, abort_told}
+use Rattle.fs_machine.proofs.AbortLemmas.{abort_kept, queue_left_kept}
 use Rattle.fs_state.specs.Hangups.{after_closure, after_hangups}
-use Rattle.fs_state.specs.Leaving.{dropped_by, after_parting, after_leaving_others}
-use Rattle.fs_machine.specs.FirstEnds.{IsLetGo}
-use Rattle.fs_machine.specs.Joining.{after_leaving}
-use Rattle.fs_machine.specs.Leaving.{after_departure}
+use Rattle.fs_state.specs.Leaving.{all_legs_at, after_cancelling, after_parting, leaving_of, after_bridges_left, after_leaving_others}
+use Rattle.fs_machine.specs.Joining.{after_leaving, after_farewell, after_farewells, after_departures}
 use Rattle.fs_machine.proofs.Kept.{IsOfNoBridge, TellsNoBridge}
 use Rattle.fs_machine.proofs.StayLemmas.{application_plain, moved_plain, state_plain_kept, changed_there}
 use Rattle.fs_machine.proofs.ListCounts.{counts_front, one_passes}
 use Rattle.fs_machine.proofs.BondRows.{RowsFit, still_part, stays_part, unbridged_fit}
-use Rattle.fs_machine.proofs.BondLemmas.{row_seen, end_stands}
+use Rattle.fs_machine.proofs.BondLemmas.{end_stands}
 use Rattle.fs_machine.proofs.EndLemmas.{is_end_of, ends_of_number, closure_once}
-use Rattle.fs_machine.proofs.LeaveLemmas.{others_left}
+use Rattle.fs_machine.proofs.PartingLemmas.{parted_state, partings_kept}
+use Rattle.fs_machine.proofs.WorldEnds.{left_end_stands, left_once}
 use Rattle.fs_machine.proofs.FrontLemmas.{Front, front_of, orig_changed_front, given_up_front}
 use Rattle.fs_machine.proofs.LimitLemmas.{AreLimited, cause_key, with_set_limited, with_set_stays, cause_told}
 
 -- ---- what is let go
 
+-- a channel is there, of which something holds, and a variable of it tells of what a bridge ended
+pub record Tells (P : Chan → Type 0) (found : Option Chan) (cause : Cause) : Type 0 where
+  pub chan : Chan
+  pub there : found ≡ Some chan
+  pub apart : P chan
+  pub told : value_of chan.vars.pairs cause_key ≡ Some (cause_name cause)
+
+-- so it is of what follows from that
+pub tells_so : (P Q : Chan → Type 0) (found : Option Chan) (cause : Cause) → ((c : Chan) → P c → Q c) → Tells P found cause →
+    Tells Q found cause
+tells_so P Q found cause follows h = record { chan = h.chan; there = h.there; apart = follows h.chan h.apart; told = h.told }
+
+-- it names no peer
+abbrev pub Alone : Chan → Type 0
+Alone c = c.peer ≡ None
+
 -- both legs of a bridge that stood before are let go, and in none now
 pub record Gone (before : Switch) (channels : List (Option Chan)) (bridges : BridgeRows) (e : Ended) : Type 0 where
   pub caller_was : bridge_at before e.0.caller ≡ Some e.0
   pub answerer_was : bridge_at before e.0.answerer ≡ Some e.0
-  pub caller : IsLetGo (held_in channels e.0.caller) e.1
-  pub answerer : IsLetGo (held_in channels e.0.answerer) e.1
+  pub caller : Tells Alone (held_in channels e.0.caller) e.1
+  pub answerer : Tells Alone (held_in channels e.0.answerer) e.1
   pub caller_out : part_of e.0.caller bridges ≡ None
   pub answerer_out : part_of e.0.answerer bridges ≡ None
 
@@ -128,28 +143,30 @@ spares_disposed text c = record {
 }
 
 -- in another slot
-pub go_apart : (channels : List (Option Chan)) (slot q : ℕ) (new : Option Chan) (cause : Cause) → (q ≡ slot → ⊥) →
-    IsLetGo (held_in channels q) cause →
-    IsLetGo (held_in (with_held channels slot new) q) cause
-go_apart channels slot q new cause other h =
-    subst (λ (found : Option Chan). IsLetGo found cause) (sym (held_there channels slot q new other)) h
+pub go_apart : (P : Chan → Type 0) (channels : List (Option Chan)) (slot q : ℕ) (new : Option Chan) (cause : Cause) → (q ≡ slot → ⊥) →
+    Tells P (held_in channels q) cause →
+    Tells P (held_in (with_held channels slot new) q) cause
+go_apart P channels slot q new cause other h =
+    subst (λ (found : Option Chan). Tells P found cause) (sym (held_there channels slot q new other)) h
 
 -- or in the same
-pub go_spared : (channels : List (Option Chan)) (slot : ℕ) (old new : Chan) → held_in channels slot ≡ Some old → Spares old new →
-    (q : ℕ) (cause : Cause) → IsLetGo (held_in channels q) cause → IsLetGo (held_in (with_held channels slot (Some new)) q) cause
-go_spared channels slot old new there spares q cause h = by (cases_eq q slot)
+pub go_put : (P : Chan → Type 0) (channels : List (Option Chan)) (slot : ℕ) (old new : Chan) → held_in channels slot ≡ Some old →
+    value_of new.vars.pairs cause_key ≡ value_of old.vars.pairs cause_key → (q : ℕ) (cause : Cause) → (q ≡ slot → P old → P new) →
+    Tells P (held_in channels q) cause →
+    Tells P (held_in (with_held channels slot (Some new)) q) cause
+go_put P channels slot old new there stays q cause keeps h = by (cases_eq q slot)
   where
-    by : (q ≡ slot) ⊎ (q ≡ slot → ⊥) → IsLetGo (held_in (with_held channels slot (Some new)) q) cause
+    by : (q ≡ slot) ⊎ (q ≡ slot → ⊥) → Tells P (held_in (with_held channels slot (Some new)) q) cause
     by (inl same) =
-        let is : old ≡ h.chan = same_Some old h.chan (sym (ap (held_in channels) same ∙ there) ∙ h.there) in
+        let is : h.chan ≡ old = same_Some h.chan old (sym h.there ∙ (ap (held_in channels) same ∙ there)) in
         record {
           chan = new;
           there = ap (held_in (with_held channels slot (Some new))) same
               ∙ held_here channels slot (Some new) (held_within channels slot old there);
-          alone = spares.alone (ap (λ (c : Chan). c.peer) is ∙ h.alone);
-          told = spares.cause ∙ ap (λ (c : Chan). value_of c.vars.pairs cause_key) is ∙ h.told;
+          apart = keeps same (subst P is h.apart);
+          told = stays ∙ ap (λ (c : Chan). value_of c.vars.pairs cause_key) (sym is) ∙ h.told;
         }
-    by (inr other) = go_apart channels slot q (Some new) cause other h
+    by (inr other) = go_apart P channels slot q (Some new) cause other h
 
 pub there_put : (channels : List (Option Chan)) (slot : ℕ) (old new : Chan) → held_in channels slot ≡ Some old → (q : ℕ) →
     IsThere channels q → IsThere (with_held channels slot (Some new)) q
@@ -222,10 +239,11 @@ module _ (before : Switch) (known : Ended → Type 0) (e : Ended) (t : Switch) (
   no_leg q slot none is same = none-some e.0 (sym none ∙ (ap (λ at. part_of at t.bridges) same ∙ is))
 
   -- whoever was let go before
-  still_go : (q : ℕ) (cause : Cause) → part_of q t.bridges ≡ None → IsLetGo (held_in t.channels q) cause → IsLetGo (held_in both q) cause
+  still_go : (q : ℕ) (cause : Cause) → part_of q t.bridges ≡ None → Tells Alone (held_in t.channels q) cause →
+      Tells Alone (held_in both q) cause
   still_go q cause none go =
-      go_apart once e.0.answerer q (Some (let_go e.1 answerer_there.chan)) cause (no_leg q e.0.answerer none other)
-      (go_apart t.channels e.0.caller q (Some (let_go e.1 caller_there.chan)) cause (no_leg q e.0.caller none part) go)
+      go_apart Alone once e.0.answerer q (Some (let_go e.1 answerer_there.chan)) cause (no_leg q e.0.answerer none other)
+      (go_apart Alone t.channels e.0.caller q (Some (let_go e.1 caller_there.chan)) cause (no_leg q e.0.caller none part) go)
 
   still_gone : (x : Ended) → Gone before t.channels t.bridges x → Gone before both ends_now x
   still_gone x g = record {
@@ -247,7 +265,7 @@ module _ (before : Switch) (known : Ended → Type 0) (e : Ended) (t : Switch) (
       there = held_there once e.0.answerer e.0.caller (Some (let_go e.1 answerer_there.chan)) differ
           ∙ held_here t.channels e.0.caller (Some (let_go e.1 caller_there.chan))
           (held_within t.channels e.0.caller caller_there.chan caller_there.there);
-      alone = refl;
+      apart = refl;
       told = cause_told e.1 caller_there.chan.vars
           (limits_at t.channels e.0.caller caller_there.chan caller_there.there h.limits);
     };
@@ -255,7 +273,7 @@ module _ (before : Switch) (known : Ended → Type 0) (e : Ended) (t : Switch) (
       chan = let_go e.1 answerer_there.chan;
       there = held_here once e.0.answerer (Some (let_go e.1 answerer_there.chan))
           (held_within once e.0.answerer answerer_there.chan second_there);
-      alone = refl;
+      apart = refl;
       told = cause_told e.1 answerer_there.chan.vars
           (limits_at t.channels e.0.answerer answerer_there.chan answerer_there.there h.limits);
     };
@@ -390,8 +408,8 @@ module _ (before : Switch) (known : Ended → Type 0) where
       gone_put e g = record {
         caller_was = g.caller_was;
         answerer_was = g.answerer_was;
-        caller = go_spared s.channels slot old new there spares e.0.caller e.1 g.caller;
-        answerer = go_spared s.channels slot old new there spares e.0.answerer e.1 g.answerer;
+        caller = go_put Alone s.channels slot old new there spares.cause e.0.caller e.1 (λ same none. spares.alone none) g.caller;
+        answerer = go_put Alone s.channels slot old new there spares.cause e.0.answerer e.1 (λ same none. spares.alone none) g.answerer;
         caller_out = g.caller_out;
         answerer_out = g.answerer_out;
       }
@@ -509,36 +527,57 @@ module _ (before : Switch) (known : Ended → Type 0) where
 abbrev pub Nothing : Ended → Type 0
 Nothing e = ⊥
 
-pub hung_core : (before : Switch) (named : Members) (s : Switch) → Core before Nothing s → Core before Nothing (after_hangups named s)
-unfolding after_hangups
-hung_core before named s h =
-    let all : Ends = closure_of (world_of s) (living_of s named) in
+-- bridges that stand end, of which no two have one number, then some are hung up, and others outlive a bridge
+closure_core : (before : Switch) (all : Ends) (s : Switch) →
+    ((e : Ended) → IsOneOf e all.ended → (slot : ℕ) × (bridge_at s slot ≡ Some e.0)) →
+    ((number : ℕ) → ends_of_number number all.ended ≤ 1) → Core before Nothing s → Core before Nothing (after_closure all s)
+closure_core before all s stand once h =
     fewer_known before (λ e. Nothing e ⊎ IsOneOf e all.ended) Nothing (after_closure all s) (λ e none. absurd none)
     (all_survived before (λ e. Nothing e ⊎ IsOneOf e all.ended) all.survivors (after_members all.ended all.members (after_ends all.ended s))
     (core_members before (λ e. Nothing e ⊎ IsOneOf e all.ended) all.ended all.members (after_ends all.ended s) (λ e one. inr one)
-    (all_gone before all.ended Nothing s h (λ e one. let at = end_stands named s e one in h.fit.caller at.0 e.0 at.1)
-    (closure_once named s h.fit))))
+    (all_gone before all.ended Nothing s h (λ e one. let at = stand e one in h.fit.caller at.0 e.0 at.1) once)))
+
+pub hung_core : (before : Switch) (named : Members) (s : Switch) → Core before Nothing s → Core before Nothing (after_hangups named s)
+unfolding after_hangups
+hung_core before named s h =
+    closure_core before (closure_of (world_of s) (living_of s named)) s (end_stands named s) (closure_once named s h.fit) h
+
+-- ---- channels that leave
 
 -- a bridge is left, which is told at once
-parted_core : (before : Switch) (slot : ℕ) (found : Option Row) (s : Switch) → row_at s slot ≡ found → Core before Nothing s →
-    Core before Nothing (after_parting found s)
-parted_core before slot None s is h = h
-parted_core before slot (Some row) s is h =
+parted_core : (before : Switch) (slot : ℕ) (row : Row) (s : Switch) → bridge_at s slot ≡ Some row → Core before Nothing s →
+    Core before Nothing (after_parting (row, NormalClearing) s)
+parted_core before slot row s is h =
     let e : Ended = (row, NormalClearing) in
-    let part : bridge_at s row.caller ≡ Some row = h.fit.caller slot row (row_seen s slot row is) in
-    fewer_known before (λ x. Nothing x ⊎ (x ≡ e)) Nothing (after_parting (Some row) s) (λ x none. absurd none)
+    fewer_known before (λ x. Nothing x ⊎ (x ≡ e)) Nothing (after_parting e s) (λ x none. absurd none)
     (core_end_told before (λ x. Nothing x ⊎ (x ≡ e)) e (after_end row NormalClearing s) (inr refl)
-    (one_ended before Nothing e s h part))
+    (one_ended before Nothing e s h (h.fit.caller slot row is)))
 
-pub left_core : (before : Switch) (slot : ℕ) (s : Switch) → Core before Nothing s → Core before Nothing (after_leaving slot s)
+-- all that they leave end, and then others hang up or outlive a bridge
+bridges_left_core : (before : Switch) (slots : List ℕ) (s : Switch) → Core before Nothing s →
+    Core before Nothing (after_bridges_left slots s)
+unfolding after_bridges_left
+bridges_left_core before slots s h =
+    closure_core before (leaving_of slots s).ends (parted_state slots s) (left_end_stands slots s h.fit) (left_once slots s h.fit)
+    (partings_kept (Core before Nothing) (λ slot row t is k. parted_core before slot row t is k) slots s h.fit h)
+
+left_core : (before : Switch) (slot : ℕ) (s : Switch) → Core before Nothing s → Core before Nothing (after_leaving slot s)
 left_core before slot s h =
     let awaited : Option ℕ = option_and_then awaited_by (chan_at s slot) in
     core_changed before Nothing at_leisure slot (orig_given_up slot awaited s) (λ c. spares_same c (at_leisure c) refl refl)
     (core_same before Nothing s (orig_given_up slot awaited s) (given_up_front slot awaited s) h)
 
-pub departed_core : (before : Switch) (slot : ℕ) (s : Switch) → Core before Nothing s → Core before Nothing (after_departure slot s)
-departed_core before slot s h =
-    left_core before slot (after_leaving_others slot s)
-    (others_left s slot (Core before Nothing)
-    (λ found is. hung_core before (dropped_by slot s) (after_parting found s) (parted_core before slot found s is h))
-    (λ one is t k. survived before Nothing one.1 one.0 t k))
+farewell_core : (before : Switch) (slot : ℕ) (s : Switch) → Core before Nothing s → Core before Nothing (after_farewell slot s)
+farewell_core before slot s h =
+    queue_left_kept (Core before Nothing) (λ name at t k. core_told before Nothing (queue_event Abort name at) t (refl, tt) k)
+    (queue_at s slot) slot (after_leaving slot s) (left_core before slot s h)
+
+farewells_core : (before : Switch) (slots : List ℕ) (s : Switch) → Core before Nothing s → Core before Nothing (after_farewells slots s)
+farewells_core before [] s h = h
+farewells_core before (slot ∷ slots) s h = farewells_core before slots (after_farewell slot s) (farewell_core before slot s h)
+
+pub departed_core : (before : Switch) (slots : List ℕ) (s : Switch) → Core before Nothing s → Core before Nothing (after_departures slots s)
+departed_core before slots s h =
+    farewells_core before slots (after_leaving_others slots s)
+    (bridges_left_core before slots (after_cancelling slots s)
+    (hung_core before (map (λ slot. (slot, OriginatorCancel)) (all_legs_at s slots)) s h))

@@ -1,32 +1,29 @@
 -- Each act lets go of the legs of the bridges that it ends, and nothing in it comes back to them.
-use Rattle.std.proofs.Common.{◌≡◌, ℕ, Bool, true, false, if◌then◌else◌, List, [], ◌∷◌, ◌++◌, Option, None, Some, option_and_then}
-use Rattle.std.proofs.Common.{unwrap_or, ◌⊎◌, inl, inr, codes, refl, sym, ap, subst, ◌∙◌}
+use Rattle.std.proofs.Common.{◌≡◌, ℕ, ◌<◌, Bool, true, false, if◌then◌else◌, List, [], ◌∷◌, ◌++◌, Option, None, Some}
+use Rattle.std.proofs.Common.{unwrap_or, ◌⊎◌, inl, inr, codes, refl, sym, ap, subst, ◌∙◌, arith}
 use Rattle.std.specs.Prelude.{map}
-use Rattle.std.proofs.lemmas.Bool.{false≢true}
 use Rattle.std.proofs.lemmas.Option.{none-some}
 use Rattle.fs_text.specs.Texts.{Text}
 use Rattle.fs_text.specs.Cause.{cause_name}
 use Rattle.fs_text.specs.declared.causes.Cause.{Cause}
 use Rattle.fs_text.specs.declared.causes.Cause.TheVariants.{LoseRace}
 use Rattle.fs_text.specs.declared.event_names.EventName.{EventName}
+use Rattle.fs_vars.specs.Pairs.{value_of}
 use Rattle.fs_vars.specs.Variables.{Variables}
 use Rattle.fs_bridge.specs.declared.row.Row.{Row}
 use Rattle.fs_bridge.specs.declared.row.BridgeKind.{BridgeKind}
 use Rattle.fs_bridge.specs.declared.row.BridgeKind.TheVariants.{Dial}
-use Rattle.fs_bridge.specs.Bridges.{BridgeRows, part_of, next_row}
-use Rattle.fs_bridge.specs.Closure.{Members}
+use Rattle.fs_bridge.specs.Bridges.{BridgeRows, has_leg, part_of, next_row, joined}
 use Rattle.fs_bridge.specs.Hangups.{IsOneOf}
 use Rattle.fs_bridge.proofs.DragLemmas.{one_parts}
 use Rattle.fs_chan.specs.declared.chan.Chan.{Chan}
-use Rattle.fs_chan.specs.Bridging.{awaited_by, awaiting, bridged, in_media, with_disposition, exported_pairs}
+use Rattle.fs_chan.specs.Bridging.{awaiting, bridged, in_media, with_disposition, exported_pairs}
 use Rattle.fs_chan.specs.Controlling.{held_by}
-use Rattle.fs_orig.specs.declared.leg.OrigLeg.{OrigLeg}
 use Rattle.fs_orig.specs.declared.orig.Owner.TheVariants as owner
 use Rattle.fs_orig.specs.declared.plan.LegPlan.{LegPlan}
 use Rattle.fs_orig.specs.declared.winner.Winner.{Winner}
 use Rattle.fs_orig.specs.declared.winner.Winner.TheVariants.{App, Route}
 use Rattle.fs_orig.specs.Changes.{with_answer, at_next_group}
-use Rattle.fs_orig.specs.Legs.{is_at}
 use Rattle.fs_orig.specs.Plans.{all_behind}
 use Rattle.fs_seats.specs.Seats.{held_in, with_held}
 use Rattle.fs_seats.proofs.RowLemmas.{each_put}
@@ -38,32 +35,25 @@ use Rattle.fs_state.specs.Moves.{plain_event, after_move, orig_changed, leg_chan
 use Rattle.fs_state.specs.Hangups.{after_hangups}
 use Rattle.fs_state.specs.Bridging.{bridge_event, can_join, peer_of, with_peer_from, with_peer, joined_as}
 use Rattle.fs_machine.specs.declared.call.Call.{Call}
-use Rattle.fs_machine.specs.FirstEnds.{IsLetGo}
-use Rattle.fs_machine.specs.Attempts.{first_group, orig_begun, awaits, with_group}
+use Rattle.fs_machine.specs.Attempts.{first_group, orig_begun, with_group}
 use Rattle.fs_machine.specs.Bridging.{caller_of, group_dialed, goes_on, after_going_on, bridge_failed_from, after_bridge_failure, disposed}
 use Rattle.fs_machine.specs.Bridging.{after_win_told, after_bridge_win}
 use Rattle.fs_machine.specs.Dialing.{tried_by_slot}
-use Rattle.fs_machine.specs.Joining.{both_left}
-use Rattle.fs_machine.specs.Leaving.{after_departure}
+use Rattle.fs_machine.specs.Joining.{after_departures}
 use Rattle.fs_machine.specs.Originations.{MadeGroup, group_made, pair_made, leg_end, far_end, end_made, named_end_made, won_by, after_winning}
-use Rattle.fs_machine.proofs.Kept.{Stage, Fact, TellsNoBridge, Links, Keeps, Stays, KeptByTouches, WasApart, KeptByCalls}
-use Rattle.fs_machine.proofs.Kept.{IsShortCall, KeptByBirths, raced, HasWon, HasHung, KeptByDials, KeptByMoves}
+use Rattle.fs_machine.proofs.Kept.{Stage, Fact, TellsNoBridge, Links, Keeps, Stays, KeptByTouches, KeptByCalls}
+use Rattle.fs_machine.proofs.Kept.{IsShortCall, KeptByBirths, raced, HasHung, KeptByDials, KeptByMoves}
 use Rattle.fs_machine.proofs.StayLemmas.{moved_plain, changed_there, held_keeps}
-use Rattle.fs_machine.proofs.ClosureLemmas.{hangs_up}
-use Rattle.fs_machine.proofs.HangLemmas.{dies, Falls, Cut, Unbridged, Rests, Parks, hangups_kept}
-use Rattle.fs_machine.proofs.JoinLemmas.{both_left_kept, DialsNone, dials_put, rest_dials}
 use Rattle.fs_machine.proofs.Walk.{answered_kept, disposed_kept, group_made_kept}
 use Rattle.fs_machine.proofs.NameLemmas.{leg_chan, far_chan, pair_channels}
-use Rattle.fs_machine.proofs.LegLemmas.{roles_of, LegsStand}
-use Rattle.fs_machine.proofs.LegHangups.{has_leg}
-use Rattle.fs_machine.proofs.BondRows.{RowsFit}
-use Rattle.fs_machine.proofs.BondTables.{Bonds}
-use Rattle.fs_machine.proofs.BondHangups.{leg_held}
+use Rattle.fs_machine.proofs.BondRows.{RowsFit, caller_leg, answerer_leg, new_part, old_part}
+use Rattle.fs_machine.proofs.CanLemmas.{caller_lone, answerer_lone}
+use Rattle.fs_machine.proofs.DrawnLemmas.{SameDrawn, hung_drawn, drawn_touches}
 use Rattle.fs_machine.proofs.FrontLemmas.{Front, front_of, orig_changed_front, moves_by_front}
-use Rattle.fs_machine.proofs.LimitLemmas.{AreLimited, with_set_limited}
-use Rattle.fs_machine.proofs.LetGoLemmas.{IsThere, LimitedIn, Limited, Core, Spares, spares_same, spares_disposed, go_apart, go_spared}
-use Rattle.fs_machine.proofs.LetGoLemmas.{there_put, limits_at, limits_put, no_end_in, Nothing, core_put, core_told, core_same, core_changed}
-use Rattle.fs_machine.proofs.LetGoLemmas.{core_completed, hung_core, left_core, departed_core}
+use Rattle.fs_machine.proofs.LimitLemmas.{AreLimited, cause_key, with_set_limited, with_set_stays}
+use Rattle.fs_machine.proofs.LetGoLemmas.{IsThere, Limited, LimitedIn, Core, Spares, spares_same, spares_disposed, Tells, tells_so, Alone}
+use Rattle.fs_machine.proofs.LetGoLemmas.{go_apart, go_put, there_put, limits_at, limits_put, no_end_in, Nothing, core_put, core_told}
+use Rattle.fs_machine.proofs.LetGoLemmas.{core_same, core_changed, core_completed, hung_core, departed_core}
 
 -- ---- what holds at each stage
 
@@ -78,22 +68,32 @@ pub record NothingIn (before : Switch) (channels : List (Option Chan)) (bridges 
   pub limits : Limited channels
   pub none : NoEnds news
 
+-- a slot is in a bridge whose number none had before
+pub record IsJoined (before : Switch) (bridges : BridgeRows) (slot : ℕ) : Type 0 where
+  pub row : Row
+  pub part : part_of slot bridges ≡ Some row
+  pub number : before.bridges.drawn < row.number
+
+-- the channel in it names no peer, or one of such a bridge
+abbrev pub Freed : Switch → BridgeRows → ℕ → Chan → Type 0
+Freed before bridges slot c = (c.peer ≡ None) ⊎ IsJoined before bridges slot
+
 -- both legs of a bridge that stood before are let go
-pub record BothGone (before : Switch) (channels : List (Option Chan)) (row : Row) (cause : Cause) : Type 0 where
+pub record BothGone (before : Switch) (channels : List (Option Chan)) (bridges : BridgeRows) (row : Row) (cause : Cause) : Type 0 where
   pub caller_was : bridge_at before row.caller ≡ Some row
   pub answerer_was : bridge_at before row.answerer ≡ Some row
-  pub caller : IsLetGo (held_in channels row.caller) cause
-  pub answerer : IsLetGo (held_in channels row.answerer) cause
+  pub caller : Tells (Freed before bridges row.caller) (held_in channels row.caller) cause
+  pub answerer : Tells (Freed before bridges row.answerer) (held_in channels row.answerer) cause
 
 -- so are those of each bridge that was told to have ended
-pub record EndedIn (before : Switch) (channels : List (Option Chan)) (news : List Event) : Type 0 where
+pub record EndedIn (before : Switch) (channels : List (Option Chan)) (bridges : BridgeRows) (news : List Event) : Type 0 where
   pub limits : Limited channels
   pub told : (row : Row) (cause : Cause) (event : Event) → IsOneOf event news → event.detail ≡ detail.Unbridge row cause →
-      BothGone before channels row cause
+      BothGone before channels bridges row cause
 
 abbrev pub Ending : Switch → Fact
 Ending before None s = NothingIn before s.channels s.bridges s.news
-Ending before (Some n) s = EndedIn before s.channels s.news
+Ending before (Some n) s = EndedIn before s.channels s.bridges s.news
 
 -- ---- single steps
 
@@ -134,7 +134,7 @@ module _ (before : Switch) where
   ended_told event n s ends h = record {
     limits = h.limits;
     told = λ row cause other one is.
-        one_more event other s.news (λ x. x.detail ≡ detail.Unbridge row cause → BothGone before s.channels row cause)
+        one_more event other s.news (λ x. x.detail ≡ detail.Unbridge row cause → BothGone before s.channels s.bridges row cause)
         (λ x was. h.told row cause x was) (λ same. absurd (ends row cause same)) one is;
   }
 
@@ -143,42 +143,40 @@ module _ (before : Switch) where
   told_at (Some n) event s ends h = ended_told event n s ends h
 
   -- a channel is changed that is let go or not
-  ended_put : (slot : ℕ) (old new : Chan) (n : ℕ) (s : Switch) → chan_at s slot ≡ Some old → Spares old new → Ending before (Some n) s →
+  ended_put : (slot : ℕ) (old new : Chan) (n : ℕ) (s : Switch) → chan_at s slot ≡ Some old →
+      value_of new.vars.pairs cause_key ≡ value_of old.vars.pairs cause_key → (AreLimited old.vars → AreLimited new.vars) →
+      (Freed before s.bridges slot old → Freed before s.bridges slot new) → Ending before (Some n) s →
       Ending before (Some n) (with_chan slot (Some new) s)
-  ended_put slot old new n s there spares h = record {
-    limits = limits_put s.channels slot new (spares.limits (limits_at s.channels slot old there h.limits)) h.limits;
+  ended_put slot old new n s there stays limits frees h = record {
+    limits = limits_put s.channels slot new (limits (limits_at s.channels slot old there h.limits)) h.limits;
     told = λ row cause event one is. put row cause (h.told row cause event one is);
   }
     where
-      put : (row : Row) (cause : Cause) → BothGone before s.channels row cause →
-          BothGone before (with_held s.channels slot (Some new)) row cause
+      frees_at : (q : ℕ) → q ≡ slot → Freed before s.bridges q old → Freed before s.bridges q new
+      frees_at q same freed =
+          subst (λ at. Freed before s.bridges at new) (sym same) (frees (subst (λ at. Freed before s.bridges at old) same freed))
+
+      still : (q : ℕ) (cause : Cause) → Tells (Freed before s.bridges q) (held_in s.channels q) cause →
+          Tells (Freed before s.bridges q) (held_in (with_held s.channels slot (Some new)) q) cause
+      still q cause go = go_put (Freed before s.bridges q) s.channels slot old new there stays q cause (frees_at q) go
+
+      put : (row : Row) (cause : Cause) → BothGone before s.channels s.bridges row cause →
+          BothGone before (with_held s.channels slot (Some new)) s.bridges row cause
       put row cause g = record {
         caller_was = g.caller_was;
         answerer_was = g.answerer_was;
-        caller = go_spared s.channels slot old new there spares row.caller cause g.caller;
-        answerer = go_spared s.channels slot old new there spares row.answerer cause g.answerer;
+        caller = still row.caller cause g.caller;
+        answerer = still row.answerer cause g.answerer;
       }
 
-  -- or that was in no bridge before
-  ended_apart : (slot : ℕ) (new : Chan) (n : ℕ) (s : Switch) → bridge_at before slot ≡ None → AreLimited new.vars →
-      Ending before (Some n) s →
+  -- one that is let go stays so
+  ended_spared : (slot : ℕ) (old new : Chan) (n : ℕ) (s : Switch) → chan_at s slot ≡ Some old → Spares old new → Ending before (Some n) s →
       Ending before (Some n) (with_chan slot (Some new) s)
-  ended_apart slot new n s apart limited h = record {
-    limits = limits_put s.channels slot new limited h.limits;
-    told = λ row cause event one is. put row cause (h.told row cause event one is);
-  }
+  ended_spared slot old new n s there spares h = ended_put slot old new n s there spares.cause spares.limits still h
     where
-      no_leg : (q : ℕ) (row : Row) → bridge_at before q ≡ Some row → q ≡ slot → ⊥
-      no_leg q row was same = none-some row (sym apart ∙ (ap (bridge_at before) (sym same) ∙ was))
-
-      put : (row : Row) (cause : Cause) → BothGone before s.channels row cause →
-          BothGone before (with_held s.channels slot (Some new)) row cause
-      put row cause g = record {
-        caller_was = g.caller_was;
-        answerer_was = g.answerer_was;
-        caller = go_apart s.channels slot row.caller (Some new) cause (no_leg row.caller row g.caller_was) g.caller;
-        answerer = go_apart s.channels slot row.answerer (Some new) cause (no_leg row.answerer row g.answerer_was) g.answerer;
-      }
+      still : Freed before s.bridges slot old → Freed before s.bridges slot new
+      still (inl none) = inl (spares.alone none)
+      still (inr is) = inr is
 
   -- as nothing has ended
   nothing_put : (slot : ℕ) (old new : Chan) (s : Switch) → chan_at s slot ≡ Some old → (AreLimited old.vars → AreLimited new.vars) →
@@ -194,11 +192,11 @@ module _ (before : Switch) where
   put_at : (b : Stage) (slot : ℕ) (old new : Chan) (s : Switch) → chan_at s slot ≡ Some old → Spares old new → Ending before b s →
       Ending before b (with_chan slot (Some new) s)
   put_at None slot old new s there spares h = nothing_put slot old new s there spares.limits h
-  put_at (Some n) slot old new s there spares h = ended_put slot old new n s there spares h
+  put_at (Some n) slot old new s there spares h = ended_spared slot old new n s there spares h
 
   same_at : (b : Stage) (t u : Switch) → Ending before b t → front_of u ≡ front_of t → Ending before b u
   same_at None t u h same = subst (λ (f : Front). NothingIn before f.channels f.bridges f.news) (sym same) h
-  same_at (Some n) t u h same = subst (λ (f : Front). EndedIn before f.channels f.news) (sym same) h
+  same_at (Some n) t u h same = subst (λ (f : Front). EndedIn before f.channels f.bridges f.news) (sym same) h
 
   plain_at : (b : Stage) (name : EventName) (slot : ℕ) (s : Switch) → TellsNoBridge (plain_event name slot) → Ending before b s →
       Ending before b (with_event (plain_event name slot) s)
@@ -219,8 +217,17 @@ module _ (before : Switch) where
     limits = h.limits;
     told = λ row cause event one is.
         let g = h.told row cause event one is in
-        record { caller_was = g.caller_was; answerer_was = g.answerer_was; caller = g.caller; answerer = g.answerer };
+        record {
+          caller_was = g.caller_was;
+          answerer_was = g.answerer_was;
+          caller = alone row.caller cause g.caller;
+          answerer = alone row.answerer cause g.answerer;
+        };
   }
+    where
+      alone : (q : ℕ) (cause : Cause) → Tells Alone (held_in s.channels q) cause →
+          Tells (Freed before s.bridges q) (held_in s.channels q) cause
+      alone q cause go = tells_so Alone (Freed before s.bridges q) (held_in s.channels q) cause (λ c none. inl none) go
 
   -- ---- what leaves a channel what it is
 
@@ -228,7 +235,7 @@ module _ (before : Switch) where
       Ending before b (with_chan slot (Some new) s)
   changed_at None slot old new s there keeps h = nothing_put slot old new s there keeps.vars.limits h
   changed_at (Some n) slot old new s there keeps h =
-      ended_put slot old new n s there
+      ended_spared slot old new n s there
       (record {
         alone = λ none. ap (λ (l : Links). l.peer) keeps.links ∙ none;
         cause = keeps.vars.cause refl;
@@ -251,29 +258,85 @@ module _ (before : Switch) where
 
   -- ---- two are joined
 
-  peer_ended : (slot other n : ℕ) (s : Switch) → bridge_at before slot ≡ None → Ending before (Some n) s →
+  -- whoever was in a bridge of a new number is so beside one more
+  more_joined : (kind : BridgeKind) (caller answerer n : ℕ) (s : Switch) → bridge_at s caller ≡ None → bridge_at s answerer ≡ None →
+      Ending before (Some n) s →
+      Ending before (Some n) (with_bridge caller answerer kind s)
+  more_joined kind caller answerer n s first second h = record {
+    limits = h.limits;
+    told = λ row cause event one is.
+        let g = h.told row cause event one is in
+        record {
+          caller_was = g.caller_was;
+          answerer_was = g.answerer_was;
+          caller = more row.caller cause g.caller;
+          answerer = more row.answerer cause g.answerer;
+        };
+  }
+    where
+      rows : BridgeRows
+      rows = joined caller answerer kind s.bridges
+
+      still : (q : ℕ) (c : Chan) → Freed before s.bridges q c → Freed before rows q c
+      still q c (inl none) = inl none
+      still q c (inr is) = inr (record {
+        row = is.row;
+        part = old_part caller answerer kind s.bridges first second q is.row is.part;
+        number = is.number;
+      })
+
+      more : (q : ℕ) (cause : Cause) → Tells (Freed before s.bridges q) (held_in s.channels q) cause →
+          Tells (Freed before rows q) (held_in s.channels q) cause
+      more q cause go = tells_so (Freed before s.bridges q) (Freed before rows q) (held_in s.channels q) cause (still q) go
+
+  -- one who is in such a bridge may name a peer
+  peer_ended : (slot other n : ℕ) (s : Switch) → IsJoined before s.bridges slot → Ending before (Some n) s →
       Ending before (Some n) (with_peer slot other s)
-  peer_ended slot other n s apart h = by (chan_at s other)
+  peer_ended slot other n s is h = by (chan_at s other)
     where
       by : (found : Option Chan) → Ending before (Some n) (with_peer_from slot other found s)
       by None = h
       by (Some d) =
           changed_there (Ending before (Some n)) (bridged (peer_of other d)) slot s
           (λ c there.
-          ended_apart slot (bridged (peer_of other d) c) n s apart
-          (with_set_limited c.vars (codes "signal_bond") d.uuid (limits_at s.channels slot c there h.limits)) h) h
+          ended_put slot c (bridged (peer_of other d) c) n s there (with_set_stays (codes "signal_bond") cause_key d.uuid c.vars refl)
+          (λ limited. with_set_limited c.vars (codes "signal_bond") d.uuid limited) (λ freed. inr is) h) h
 
-  joined_ended : (kind : BridgeKind) (caller answerer n : ℕ) (s : Switch) → bridge_at before caller ≡ None →
-      bridge_at before answerer ≡ None → Ending before (Some n) s →
+  peer_joined : (slot other q : ℕ) (s : Switch) → IsJoined before s.bridges q → IsJoined before (with_peer slot other s).bridges q
+  peer_joined slot other q s is = by (chan_at s other)
+    where
+      by : (found : Option Chan) → IsJoined before (with_peer_from slot other found s).bridges q
+      by None = is
+      by (Some d) = changed_there (λ (t : Switch). IsJoined before t.bridges q) (bridged (peer_of other d)) slot s (λ c there. is) is
+
+  -- two who are in none are joined by a bridge of a new number, where none has been drawn since
+  joined_ended : (kind : BridgeKind) (caller answerer n : ℕ) (s : Switch) → can_join caller answerer s ≡ true →
+      s.bridges.drawn ≡ before.bridges.drawn → Ending before (Some n) s →
       Ending before (Some n) (joined_as kind caller answerer s)
-  joined_ended kind caller answerer n s first second h =
-      let t : Switch = with_bridge caller answerer kind s in
-      ended_told (bridge_event (next_row caller answerer kind s.bridges)) n (with_peer answerer caller (with_peer caller answerer t))
-      (λ row cause is. subst Begins is tt)
-      (peer_ended answerer caller n (with_peer caller answerer t) second (peer_ended caller answerer n t first h))
+  joined_ended kind caller answerer n s can drawn h =
+      ended_told (bridge_event row) n (with_peer answerer caller (with_peer caller answerer t)) (λ row cause is. subst Begins is tt)
+      (peer_ended answerer caller n (with_peer caller answerer t)
+      (peer_joined caller answerer answerer t (is_joined answerer (answerer_leg row)))
+      (peer_ended caller answerer n t (is_joined caller (caller_leg row)) (more_joined kind caller answerer n s first second h)))
+    where
+      t : Switch
+      t = with_bridge caller answerer kind s
 
-  was_apart : (slot : ℕ) {s : Switch} → WasApart (Ending before) s slot → bridge_at before slot ≡ None
-  was_apart slot was = ap (part_of slot) (sym was.first.same) ∙ was.apart
+      row : Row
+      row = next_row caller answerer kind s.bridges
+
+      first : bridge_at s caller ≡ None
+      first = caller_lone caller answerer s can
+
+      second : bridge_at s answerer ≡ None
+      second = answerer_lone caller answerer s can
+
+      is_joined : (q : ℕ) → has_leg q row ≡ true → IsJoined before t.bridges q
+      is_joined q leg = record {
+        row = row;
+        part = new_part caller answerer kind s.bridges first second q leg;
+        number = omega (arith, drawn);
+      }
 
   -- ---- channels are born
 
@@ -282,35 +345,48 @@ module _ (before : Switch) where
   pair_news None call orig a b s = refl
   pair_news (Some uuid) call orig a b s = refl
 
-  filled : (channels : List (Option Chan)) (slot q : ℕ) (c : Chan) (cause : Cause) → held_in channels slot ≡ None →
-      IsLetGo (held_in channels q) cause → q ≡ slot → ⊥
-  filled channels slot q c cause free go same = none-some go.chan (sym free ∙ (ap (held_in channels) (sym same) ∙ go.there))
+  pair_bridges : (uuid : Option Text) (call : Call) (orig a b : ℕ) (s : Switch) →
+      (end_made call (far_end a b) (named_end_made uuid call (leg_end orig a b) s)).bridges ≡ s.bridges
+  pair_bridges None call orig a b s = refl
+  pair_bridges (Some uuid) call orig a b s = refl
+
+  filled : (P : Chan → Type 0) (channels : List (Option Chan)) (slot q : ℕ) (cause : Cause) → held_in channels slot ≡ None →
+      Tells P (held_in channels q) cause → q ≡ slot → ⊥
+  filled P channels slot q cause free go same = none-some go.chan (sym free ∙ (ap (held_in channels) (sym same) ∙ go.there))
 
   pair_ended : (call : Call) (orig a b : ℕ) (s : Switch) → IsShortCall call → held_in s.channels a ≡ None → held_in s.channels b ≡ None →
       Ending before (Some 0) s →
       Ending before (Some 0) (pair_made call orig a b s)
   pair_ended call orig a b s short first second h =
-      subst (λ (channels : List (Option Chan)). EndedIn before channels (pair_made call orig a b s).news) (sym (pair_channels call orig a b s))
-      (subst (EndedIn before (with_held (with_held s.channels a (Some leg)) b (Some far))) (sym (pair_news call.uuid call orig a b s))
+      subst (λ (channels : List (Option Chan)). EndedIn before channels made.bridges made.news) (sym (pair_channels call orig a b s))
+      (subst (λ (rows : BridgeRows). EndedIn before filled_now rows made.news) (sym (pair_bridges call.uuid call orig a b s))
+      (subst (EndedIn before filled_now s.bridges) (sym (pair_news call.uuid call orig a b s))
       (record {
         limits = limits_put (with_held s.channels a (Some leg)) b far short.vars (limits_put s.channels a leg short.vars h.limits);
         told = λ row cause event one is. put row cause (h.told row cause event one is);
-      }))
+      })))
     where
+      made : Switch
+      made = pair_made call orig a b s
+
       leg : Chan
       leg = leg_chan call orig a b s
 
       far : Chan
       far = far_chan call orig a b s
 
-      fill : (q : ℕ) (cause : Cause) → IsLetGo (held_in s.channels q) cause →
-          IsLetGo (held_in (with_held (with_held s.channels a (Some leg)) b (Some far)) q) cause
-      fill q cause go =
-          go_apart (with_held s.channels a (Some leg)) b q (Some far) cause (filled s.channels b q far cause second go)
-          (go_apart s.channels a q (Some leg) cause (filled s.channels a q leg cause first go) go)
+      filled_now : List (Option Chan)
+      filled_now = with_held (with_held s.channels a (Some leg)) b (Some far)
 
-      put : (row : Row) (cause : Cause) → BothGone before s.channels row cause →
-          BothGone before (with_held (with_held s.channels a (Some leg)) b (Some far)) row cause
+      fill : (q : ℕ) (cause : Cause) → Tells (Freed before s.bridges q) (held_in s.channels q) cause →
+          Tells (Freed before s.bridges q) (held_in filled_now q) cause
+      fill q cause go =
+          go_apart (Freed before s.bridges q) (with_held s.channels a (Some leg)) b q (Some far) cause
+          (filled (Freed before s.bridges q) s.channels b q cause second go)
+          (go_apart (Freed before s.bridges q) s.channels a q (Some leg) cause
+          (filled (Freed before s.bridges q) s.channels a q cause first go) go)
+
+      put : (row : Row) (cause : Cause) → BothGone before s.channels s.bridges row cause → BothGone before filled_now s.bridges row cause
       put row cause g = record {
         caller_was = g.caller_was;
         answerer_was = g.answerer_was;
@@ -356,59 +432,7 @@ failed_core before cause slot s h = by (chan_at s slot)
     by None = h
     by (Some c) = on (goes_on cause c.vars)
 
--- whoever dials nothing dials nothing behind a hangup
-falls_dials : (hangs : ℕ → Bool) (slot : ℕ) (old new : Chan) → Falls hangs slot old new → awaited_by old ≡ None → awaited_by new ≡ None
-falls_dials hangs slot old new (Cut cause hung) none = refl
-falls_dials hangs slot old new (Unbridged cause) none = none
-falls_dials hangs slot old new (Rests outlives live) none = rest_dials old.socket old.state
-falls_dials hangs slot old new (Parks outlives live) none = rest_dials old.socket _
-
-hung_dials : (slot : ℕ) (named : Members) (s : Switch) → DialsNone s slot → DialsNone (after_hangups named s) slot
-hung_dials slot named s h =
-    hangups_kept named s (λ (t : Switch). DialsNone t slot) (λ event t k. k)
-    (λ seat old new t there falls k. dials_put t slot seat old new there (falls_dials (λ at. hangs_up at named s) seat old new falls) k)
-    (λ number t k. k) (λ cause seat leg number t k. dials_orig cause seat leg number slot t k) (λ number t k. k) h
-  where
-    dials_orig : (cause : Cause) (seat leg number slot : ℕ) (t : Switch) → DialsNone t slot →
-        DialsNone (orig_changed (dies cause seat leg) number t) slot
-    dials_orig cause seat leg number slot t k =
-        subst (λ (channels : List (Option Chan)). (c : Chan) → held_in channels slot ≡ Some c → awaited_by c ≡ None)
-        (sym (ap (λ (f : Front). f.channels) (orig_changed_front (dies cause seat leg) number t))) k
-
--- a channel that still waits was in no bridge before
-awaits_apart : (before : Switch) (slot orig : ℕ) (slots : List ℕ) → Bonds before → awaits slot orig (raced slots before) ≡ true →
-    bridge_at before slot ≡ None
-awaits_apart before slot orig slots bonds waits = by (bridge_at before slot) refl
-  where
-    s : Switch
-    s = raced slots before
-
-    none : (found : Option Chan) → ((c : Chan) → found ≡ Some c → awaited_by c ≡ None) →
-        is_at orig (option_and_then awaited_by found) ≡ true → ⊥
-    none None dials is = false≢true is
-    none (Some c) dials is = false≢true (sym (ap (is_at orig) (dials c refl)) ∙ is)
-
-    by : (found : Option Row) → bridge_at before slot ≡ found → bridge_at before slot ≡ None
-    by None is = is
-    by (Some row) is =
-        absurd
-        (none (chan_at s slot)
-        (hung_dials slot (map (λ loser. (loser, LoseRace)) slots) before (leg_held before slot row bonds is).dials) waits)
-
--- and so was a leg that has won
-winner_apart : (before : Switch) (orig : ℕ) (leg : OrigLeg) (slots : List ℕ) → Bonds before → LegsStand (roles_of before) →
-    HasWon before orig leg slots → bridge_at before (unwrap_or leg.slot 0) ≡ None
-winner_apart before orig leg slots bonds stand won = by (bridge_at before (unwrap_or leg.slot 0)) refl
-  where
-    by : (found : Option Row) → bridge_at before (unwrap_or leg.slot 0) ≡ found → bridge_at before (unwrap_or leg.slot 0) ≡ None
-    by None is = is
-    by (Some row) is =
-        let is_leg = has_leg before orig leg won.has stand in
-        let there : chan_at before (unwrap_or leg.slot 0) ≡ Some is_leg.chan =
-        ap (λ (at : Option ℕ). chan_at before (unwrap_or at 0)) is_leg.is ∙ is_leg.there in
-        absurd (none-some orig (sym ((leg_held before (unwrap_or leg.slot 0) row bonds is).lone is_leg.chan there) ∙ is_leg.names))
-
-module _ (before : Switch) (bonds : Bonds before) (stand : LegsStand (roles_of before)) (core : Core before Nothing before) where
+module _ (before : Switch) (core : Core before Nothing before) where
   core_hung : (s : Switch) → HasHung before s → Core before Nothing s
   core_hung s (inl same) = subst (Core before Nothing) (sym same) core
   core_hung s (inr some) = subst (Core before Nothing) (sym some.1) (hung_core before some.0 before core)
@@ -451,10 +475,10 @@ module _ (before : Switch) (bonds : Bonds before) (stand : LegsStand (roles_of b
         (orig_changed_front (leg_changed (λ position. with_answer position seat) slot) number s) h;
   }
 
-  bridge_won_ended : (slot leg : ℕ) (s : Switch) → bridge_at before slot ≡ None → bridge_at before leg ≡ None → Core before Nothing s →
+  bridge_won_ended : (slot leg : ℕ) (s : Switch) → SameDrawn before s → Core before Nothing s →
       Ending before (Some 0) (after_bridge_win slot leg s)
   unfolding after_bridge_win
-  bridge_won_ended slot leg s first second h = by (can_join slot leg u)
+  bridge_won_ended slot leg s drawn h = by (can_join slot leg u) refl
     where
       u : Switch
       u = after_win_told slot s
@@ -464,12 +488,17 @@ module _ (before : Switch) (bonds : Bonds before) (stand : LegsStand (roles_of b
           disposed_kept CoreAt touches_core (codes "SUCCESS") slot {b = Some 0} {s = after_answer slot s}
           (answered_kept CoreAt touches_core slot {b = Some 0} {s = s} h)
 
-      by : (test : Bool) →
+      still_drawn : SameDrawn before u
+      still_drawn =
+          disposed_kept (λ b t. SameDrawn before t) (drawn_touches before) (codes "SUCCESS") slot {b = Some 0} {s = after_answer slot s}
+          (answered_kept (λ b t. SameDrawn before t) (drawn_touches before) slot {b = Some 0} {s = s} drawn)
+
+      by : (test : Bool) → can_join slot leg u ≡ test →
           Ending before (Some 0) (if test then after_move in_media leg (joined_as Dial slot leg u) else u)
-      by true =
+      by true can =
           moved_at before (Some 0) in_media leg (joined_as Dial slot leg u) (λ c. spares_same c (in_media c) refl refl)
-          (joined_ended before Dial slot leg 0 u first second (core_ended before 0 u told))
-      by false = core_ended before 0 u told
+          (joined_ended before Dial slot leg 0 u can still_drawn (core_ended before 0 u told))
+      by false cannot = core_ended before 0 u told
 
   -- ---- every move
 
@@ -491,13 +520,9 @@ module _ (before : Switch) (bonds : Bonds before) (stand : LegsStand (roles_of b
   calls_end = record {
     touches = touches_end before;
     hung = λ named {s = s} early h. core_ended before 0 (after_hangups named s) (hung_core before named s (early_core s early));
-    joined = λ kind caller answerer c d {s = s} can there other one two first second was were h.
-        joined_ended before kind caller answerer 0 s (was_apart before caller was) (was_apart before answerer were) h;
-    leaves = λ one other {s = s} first second early h.
-        core_ended before 0 (both_left one other s)
-        (both_left_kept (Core before Nothing) (λ named t k. hung_core before named t k) (λ slot t apart k. left_core before slot t k) one
-        other s first second (early_core s early));
-    departs = λ slot {s = s} early h. core_ended before 0 (after_departure slot s) (departed_core before slot s (early_core s early));
+    joined = λ kind caller answerer c d {s = s} can there other one two first second was h.
+        joined_ended before kind caller answerer 0 s can (was.drawn ∙ ap (λ (rows : BridgeRows). rows.drawn) was.first.same) h;
+    departs = λ slots {s = s} early h. core_ended before 0 (after_departures slots s) (departed_core before slots s (early_core s early));
     more = λ h. h;
     gone = λ slot old {s = s} there dead early h. record {
       limits = each_put LimitedIn s.channels slot None h.limits tt;
@@ -534,7 +559,7 @@ module _ (before : Switch) (bonds : Bonds before) (stand : LegsStand (roles_of b
         (core_same before Nothing s (without_orig orig s) refl (core_hung s over.from)));
     wins = λ slot orig leg slots waits won h.
         bridge_won_ended slot (unwrap_or leg.slot 0) (without_orig orig (raced slots before))
-        (awaits_apart before slot orig slots bonds waits) (winner_apart before orig leg slots bonds stand won)
+        (hung_drawn (map (λ loser. (loser, LoseRace)) slots) before)
         (core_same before Nothing (raced slots before) (without_orig orig (raced slots before)) refl
         (hung_core before (map (λ loser. (loser, LoseRace)) slots) before core));
   }

@@ -17,6 +17,7 @@ pub mod StayLemmas
 pub mod ClosureLemmas
 pub mod HangLemmas
 pub mod LeaveLemmas
+pub mod FreeLemmas
 pub mod JoinLemmas
 pub mod CameLemmas
 pub mod CutLemmas
@@ -46,6 +47,8 @@ pub mod ConcernLemmas
 pub mod HereLemmas
 pub mod EventLemmas
 pub mod EndLemmas
+pub mod PartingLemmas
+pub mod WorldEnds
 pub mod BridgeCounts
 pub mod BridgeMoves
 pub mod BridgeLaws

@@ -53,7 +53,16 @@ module _ {X : Type 0} where
       by true passes same later = ap test (sym (same_Some y x same)) ∙ passes
       by false fails there later = later there
 
-  -- and is counted
+  -- whatever passes is counted
+  pub counts_one : (test : X → Bool) (x : X) (xs : List X) → IsOneOf x xs → test x ≡ true → 1 ≤ count_by test xs
+  counts_one test x [] is passes = absurd is
+  counts_one test x (y ∷ ys) (inl same) passes =
+      let front = counts_front test y ys ∙ ap (λ b. one_if b + count_by test ys) (ap test (sym same) ∙ passes) in
+      omega (arith, front)
+  counts_one test x (y ∷ ys) (inr one) passes =
+      let front = counts_front test y ys in let rest = counts_one test x ys one passes in omega (arith, front, rest)
+
+  -- and so is what is found
   pub counts_found : (p q : X → Bool) (xs : List X) (x : X) → find p xs ≡ Some x → q x ≡ true → 1 ≤ count_by q xs
   counts_found p q [] x is passes = absurd (none-some x is)
   counts_found p q (y ∷ ys) x is passes = by (p y) is (λ there. counts_found p q ys x there passes)
@@ -176,6 +185,12 @@ module _ {X : Type 0} where
       let long : 0 ≡ length (front ++ x ∷ back) = ap length is in
       let parts = length-append front (x ∷ back) in
       omega (arith, long, parts)
+
+  -- one of a list stands somewhere in it
+  pub stands_in : (x : X) (xs : List X) → IsOneOf x xs → (front : List X) × (back : List X) × (xs ≡ front ++ x ∷ back)
+  stands_in x [] is = absurd is
+  stands_in x (y ∷ ys) (inl same) = ([], ys, ap (λ z. z ∷ ys) (sym same))
+  stands_in x (y ∷ ys) (inr one) = let rest = stands_in x ys one in (y ∷ rest.0, rest.1, ap (λ l. y ∷ l) rest.2)
 
   -- whatever stands in a list with one more behind is that one, or stood there before
   pub stands_pushed : (xs : List X) (x : X) (front : List X) (y : X) (back : List X) → xs ++ x ∷ [] ≡ front ++ y ∷ back →

@@ -48,7 +48,7 @@ use Rattle.fs_machine.specs.Controlling.{controller, after_dial, after_letting_g
 use Rattle.fs_machine.specs.Step.{reads, busy, refused_act, after_close, acted, act_done}
 use Rattle.fs_machine.specs.Owed.{PartsIn}
 use Rattle.fs_machine.proofs.Kept.{Stage, Fact, KeptByCalls, DoesJob, raced, KeptByJobs, KeptByCommands, KeptByTouches, KeptByDials}
-use Rattle.fs_machine.proofs.Kept.{apart_by, IsWait, MayGoOn, goes_on_by, KeptByApi, KeptByMoves}
+use Rattle.fs_machine.proofs.Kept.{none_joined_by, IsWait, MayGoOn, goes_on_by, KeptByApi, KeptByMoves}
 use Rattle.fs_machine.proofs.Walk.{worked_kept}
 use Rattle.fs_machine.proofs.RestLemmas.{does_same, won_rest}
 use Rattle.fs_machine.proofs.OrderLemmas.{none_refused}
@@ -258,15 +258,12 @@ module _ (before : Switch) (Q : Fact) (kept : KeptByMoves before Q) (owns : (b :
   both_called = record {
     touches = both_touched;
     hung = λ named early h. ((calls_go b).hung named early.0 h.0, kept.calls.hung named early.1 h.1);
-    joined = λ kind caller answerer c d {s = s} can there other one two idle spare was were h. (
+    joined = λ kind caller answerer c d {s = s} can there other one two idle spare was h. (
       (calls_go b).joined kind caller answerer c d {s = s} can there other one two idle spare
-          (apart_by caller was (λ t k. k.0)) (apart_by answerer were (λ t k. k.0)) h.0,
-      kept.calls.joined kind caller answerer c d can there other one two idle spare (apart_by caller was (λ t k. k.1))
-          (apart_by answerer were (λ t k. k.1)) h.1,
+          (none_joined_by was (λ t k. k.0)) h.0,
+      kept.calls.joined kind caller answerer c d can there other one two idle spare (none_joined_by was (λ t k. k.1)) h.1,
     );
-    leaves = λ one other first second early h.
-        ((calls_go b).leaves one other first second early.0 h.0, kept.calls.leaves one other first second early.1 h.1);
-    departs = λ slot early h. ((calls_go b).departs slot early.0 h.0, kept.calls.departs slot early.1 h.1);
+    departs = λ slots early h. ((calls_go b).departs slots early.0 h.0, kept.calls.departs slots early.1 h.1);
     more = λ {s = s} h. ((calls_go b).more {s = s} h.0, kept.calls.more h.1);
     gone = λ slot old {s = s} there dead early h.
         ((calls_go b).gone slot old {s = s} there dead early.0 h.0, kept.calls.gone slot old there dead early.1 h.1);

@@ -31,20 +31,19 @@ use Rattle.fs_state.specs.Moves.{application_event, running_at, with_state_event
 use Rattle.fs_state.specs.Moves.{leg_changed_at, leg_changed, after_completion}
 use Rattle.fs_state.specs.Moves.{is_owner, its_leg_changed, hangup_event, given_up_by, orig_given_up, after_hangup_from, after_one_hangup}
 use Rattle.fs_state.specs.Hangups.{after_hangups}
+use Rattle.fs_state.specs.Leaving.{after_bridges_left}
 use Rattle.fs_state.specs.Bridging.{peer_of, with_peer_from, with_peer, joined_as}
 use Rattle.fs_machine.specs.declared.call.Call.{Call}
 use Rattle.fs_machine.specs.Attempts.{awaits, with_group}
 use Rattle.fs_machine.specs.Bridging.{goes_on, after_going_on, bridge_failed_from, after_bridge_failure, disposed, after_bridge_win}
 use Rattle.fs_machine.specs.Controlling.{after_letting_go}
-use Rattle.fs_machine.specs.Joining.{after_leaving, both_left}
-use Rattle.fs_machine.specs.Leaving.{after_departure}
-use Rattle.fs_machine.proofs.JoinLemmas.{both_left_kept}
+use Rattle.fs_machine.specs.Joining.{after_leaving, after_departures}
 use Rattle.fs_machine.proofs.LeaveLemmas.{departed_kept}
 use Rattle.fs_machine.specs.Originations.{leg_end, pair_made, MadeGroup, group_made, won_by, after_winning}
 use Rattle.fs_machine.proofs.Kept.{Stage, Fact, KeptByTouches, KeptByCalls, KeptByBirths}
 use Rattle.fs_machine.proofs.NameLemmas.{leg_by}
 use Rattle.fs_machine.proofs.StayLemmas.{state_told_kept, moved_there, changed_there}
-use Rattle.fs_machine.proofs.HangLemmas.{dies, hangups_kept_by}
+use Rattle.fs_machine.proofs.HangLemmas.{dies, hangups_kept_by, bridges_left_kept_by}
 use Rattle.fs_machine.proofs.WonLemmas.{bridge_won_kept}
 use Rattle.fs_machine.proofs.RestLemmas.{rest_of}
 use Rattle.fs_machine.proofs.Walk.{let_go_kept, disposed_kept, group_made_kept}
@@ -243,6 +242,13 @@ hung_loses named s =
     (λ number t h. on s t (without_bridge number t) refl refl refl h)
     (λ cause slot t hung h. loses_trans s t (after_one_hangup cause slot t) h (one_hung_loses cause slot t)) (self s)
 
+bridges_left_lose : (slots : List ℕ) (s : Switch) → Loses s (after_bridges_left slots s)
+bridges_left_lose slots s =
+    bridges_left_kept_by slots s (λ (t : Switch). Loses s t) (told_loses s)
+    (λ slot old new t there settles h. on s t (with_chan slot (Some new) t) refl refl refl h)
+    (λ number t h. on s t (without_bridge number t) refl refl refl h)
+    (λ cause slot t hung h. loses_trans s t (after_one_hangup cause slot t) h (one_hung_loses cause slot t)) (self s)
+
 peer_loses : (slot other : ℕ) (s : Switch) → Loses s (with_peer slot other s)
 peer_loses slot other s = by (chan_at s other)
   where
@@ -268,13 +274,11 @@ left_loses slot s =
     changed_there (λ (u : Switch). Loses s u) at_leisure slot t
     (λ c is. on s t (with_chan slot (Some (at_leisure c)) t) refl refl refl (given_up_loses slot awaited s)) (given_up_loses slot awaited s)
 
-departed_loses : (slot : ℕ) (s : Switch) → Loses s (after_departure slot s)
-departed_loses slot s =
-    departed_kept (λ (t : Switch). Loses s t) (told_loses s)
-    (λ at old new t there settles h. on s t (with_chan at (Some new) t) refl refl refl h)
-    (λ number t h. on s t (without_bridge number t) refl refl refl h)
+departed_loses : (slots : List ℕ) (s : Switch) → Loses s (after_departures slots s)
+departed_loses slots s =
+    departed_kept (λ (t : Switch). Loses s t) (told_loses s) (λ at t h. loses_trans s t (after_leaving at t) h (left_loses at t))
     (λ named t h. loses_trans s t (after_hangups named t) h (hung_loses named t))
-    (λ at t h. loses_trans s t (after_leaving at t) h (left_loses at t)) slot s (self s)
+    (λ all t h. loses_trans s t (after_bridges_left all t) h (bridges_left_lose all t)) slots s (self s)
 
 pub winning_loses : (winner : Winner) (slot : ℕ) (s : Switch) → Loses s (after_winning winner slot s)
 unfolding after_winning
@@ -311,12 +315,9 @@ calls_by_losses P loses more = record {
         (changed_loses (leg_changed (λ position. with_answer position seat) slot) (answer_keeps seat slot) number s);
   };
   hung = λ named {s = s} early h. loses (Some 0) s (after_hangups named s) h (hung_loses named s);
-  joined = λ kind caller answerer c d {s = s} can there other one two idle spare was were h.
+  joined = λ kind caller answerer c d {s = s} can there other one two idle spare was h.
       loses (Some 0) s (joined_as kind caller answerer s) h (joined_loses kind caller answerer s);
-  leaves = λ one other {s = s} first second early h. loses (Some 0) s (both_left one other s) h
-      (both_left_kept (λ (t : Switch). Loses s t) (λ named t k. loses_trans s t (after_hangups named t) k (hung_loses named t))
-      (λ slot t apart k. loses_trans s t (after_leaving slot t) k (left_loses slot t)) one other s first second (self s));
-  departs = λ slot {s = s} early h. loses (Some 0) s (after_departure slot s) h (departed_loses slot s);
+  departs = λ slots {s = s} early h. loses (Some 0) s (after_departures slots s) h (departed_loses slots s);
   more = λ {s = s} h. more s h;
   gone = λ slot old {s = s} there dead early h.
       more (with_chan slot None s) (loses (Some 0) s (with_chan slot None s) h (loses_none s (with_chan slot None s) refl refl refl));

@@ -17,8 +17,8 @@ use Rattle.fs_seats.specs.Seats.{held_in, with_held}
 use Rattle.fs_seats.proofs.HeldLemmas.{held_within}
 use Rattle.fs_state.specs.Switch.{Switch, chan_at, with_chan}
 use Rattle.fs_state.specs.Moves.{after_one_hangup}
-use Rattle.fs_state.specs.Hangups.{world_of, living_of, after_hangups}
-use Rattle.fs_machine.proofs.ClosureLemmas.{hangs_up, survivors_stay}
+use Rattle.fs_state.specs.Hangups.{world_of, living_of, after_closure, after_hangups}
+use Rattle.fs_machine.proofs.ClosureLemmas.{members_for, hangs_up, survivors_stay}
 use Rattle.fs_machine.proofs.HangLemmas.{Settles, Freed, Resumes, Halts, closure_kept_by}
 use Rattle.fs_machine.proofs.LegLemmas.{Channels, Roles, roles_of}
 use Rattle.fs_machine.proofs.TieLemmas.{HungAs, hung_by}
@@ -97,39 +97,41 @@ settles_falling hangs slot old new t there (Halts outlives live) k = record {
   dials = λ at stays. dials_put t at slot old (parked old) there (λ none. rest_dials old.socket CsPark) (k.dials at stays);
 }
 
+-- so it is behind a closure: those hang up that no survivor is one of, and each survivor dials nothing
+module _ (hangs : ℕ → Bool) (e : Ends) (s : Switch) (all : (m : Member) → IsOneOf m e.members → hangs m.0 ≡ true)
+    (none : (one : ℕ × After) → IsOneOf one e.survivors → hangs one.0 ≡ false)
+    (dials : (one : ℕ × After) → IsOneOf one e.survivors → DialsNone s one.0) where
+  -- whoever does not outlive a bridge
+  abbrev falls : ℕ → Bool
+  falls slot = not (tells e.survivors slot)
+
+  members_fall : (m : Member) → IsOneOf m e.members → falls m.0 ≡ true
+  members_fall m one = by (tells e.survivors m.0) refl
+    where
+      by : (test : Bool) → tells e.survivors m.0 ≡ test → not test ≡ true
+      by false is = refl
+      by true is =
+          let told : IsToldAt e.survivors m.0 = told_at e.survivors m.0 is in
+          absurd (true≢false (sym (all m one) ∙ (ap hangs (sym told.at) ∙ none told.told told.one)))
+
+  outlives_dials : (slot : ℕ) → falls slot ≡ false → DialsNone s slot
+  outlives_dials slot stays =
+      let told : IsToldAt e.survivors slot = told_at e.survivors slot (not_true (tells e.survivors slot) stays) in
+      subst (λ (at : ℕ). DialsNone s at) told.at (dials told.told told.one)
+
+  pub closure_owned : Owned (roles_of s) → Owned (roles_of (after_closure e s))
+  closure_owned h =
+      (closure_kept_by falls (λ (t : Switch). Falling falls t) (λ event t k. record { owned = k.owned; dials = k.dials })
+      (λ slot old new t there how k. settles_falling falls slot old new t there how k)
+      (λ number t k. record { owned = k.owned; dials = k.dials })
+      (λ cause slot t hung k. record {
+        owned = one_hung_owned cause slot t k.owned;
+        dials = λ at stays. hung_dials cause at slot t (k.dials at stays);
+      }) e s members_fall (λ one is. ap not (tells_one e.survivors one is)) (record { owned = h; dials = outlives_dials })).owned
+
 pub hung_owned : (named : Members) (s : Switch) → Bonds s → Owned (roles_of s) → Owned (roles_of (after_hangups named s))
 unfolding after_hangups
 hung_owned named s bonds h =
-    (closure_kept_by hangs (λ (t : Switch). Falling hangs t) (λ event t k. record { owned = k.owned; dials = k.dials })
-    (λ slot old new t there how k. settles_falling hangs slot old new t there how k)
-    (λ number t k. record { owned = k.owned; dials = k.dials })
-    (λ cause slot t hung k. record {
-      owned = one_hung_owned cause slot t k.owned;
-      dials = λ at stays. hung_dials cause at slot t (k.dials at stays);
-    }) e s all none (record { owned = h; dials = dials })).owned
-  where
-    e : Ends
-    e = closure_of (world_of s) (living_of s named)
-
-    hangs : ℕ → Bool
-    hangs slot = not (tells e.survivors slot)
-
-    all : (m : Member) → IsOneOf m e.members → hangs m.0 ≡ true
-    all m one = by (tells e.survivors m.0) refl
-      where
-        by : (test : Bool) → tells e.survivors m.0 ≡ test → not test ≡ true
-        by false is = refl
-        by true is =
-            let told : IsToldAt e.survivors m.0 = told_at e.survivors m.0 is in
-            absurd
-            (true≢false
-            (sym (one_stands m e.members one)
-            ∙ (ap (λ (slot : ℕ). hangs_up slot named s) (sym told.at) ∙ survivors_stay named s told.told told.one)))
-
-    none : (one : ℕ × After) → IsOneOf one e.survivors → hangs one.0 ≡ false
-    none one is = ap not (tells_one e.survivors one is)
-
-    dials : (slot : ℕ) → hangs slot ≡ false → DialsNone s slot
-    dials slot stays =
-        let told : IsToldAt e.survivors slot = told_at e.survivors slot (not_true (tells e.survivors slot) stays) in
-        subst (λ (at : ℕ). DialsNone s at) told.at (survivors_dial_none named s told.told bonds told.one)
+    closure_owned (λ at. hangs_up at named s) (closure_of (world_of s) (living_of s named)) s
+    (λ m one. one_stands m (members_for named s) one) (λ one is. survivors_stay named s one is)
+    (λ one is. survivors_dial_none named s one bonds is) h

@@ -1,38 +1,26 @@
--- Owners wait still behind a channel that leaves what it was in: the other leg of its bridge dialed nothing.
-use Rattle.std.proofs.Common.{◌≡◌, ℕ, Bool, true, false, if◌then◌else◌, Option, None, Some, refl}
-use Rattle.fs_text.specs.declared.states.State.TheVariants.{CsPark}
-use Rattle.fs_text.specs.declared.causes.Cause.TheVariants.{NormalClearing}
-use Rattle.fs_text.specs.declared.event_names.EventName.TheVariants.{ChannelExecuteComplete}
+-- Owners wait still behind channels that leave their bridges: whoever was the other leg of one dialed nothing.
+use Rattle.std.proofs.Common.{ℕ, List, map, inl, inr, refl, subst}
+use Rattle.fs_text.specs.declared.causes.Cause.TheVariants.{OriginatorCancel, NormalClearing}
 use Rattle.fs_bridge.specs.declared.after.After.{After}
-use Rattle.fs_bridge.specs.declared.after.After.TheVariants.{GoOn, Hangup, Park}
 use Rattle.fs_bridge.specs.declared.row.Row.{Row}
-use Rattle.fs_chan.specs.declared.chan.Chan.{Chan}
-use Rattle.fs_chan.specs.Bridging.{awaited_by, unbridged}
-use Rattle.fs_chan.specs.Changes.{at_rest, parked}
-use Rattle.fs_state.specs.declared.event.Event.{Event}
-use Rattle.fs_state.specs.Switch.{Switch, chan_at, with_chan, without_bridge, with_event}
-use Rattle.fs_state.specs.Moves.{application_event, running_at, with_changed_chan, after_move}
-use Rattle.fs_state.specs.Hangups.{lives_at, row_at, after_outliving, after_survival, after_hangups}
-use Rattle.fs_state.specs.Leaving.{dropped_by, left_behind, after_parting, after_leaving_others}
-use Rattle.fs_machine.proofs.StayLemmas.{moved_there, changed_there}
-use Rattle.fs_machine.proofs.HangLemmas.{Falls, Cut, Unbridged, Rests, Parks}
-use Rattle.fs_machine.proofs.JoinLemmas.{rest_dials}
-use Rattle.fs_machine.proofs.LeaveLemmas.{others_left}
+use Rattle.fs_bridge.specs.Closure.{Members, Ends}
+use Rattle.fs_bridge.specs.Hangups.{IsOneOf}
+use Rattle.fs_bridge.proofs.SettledLemmas.{one_stands}
+use Rattle.fs_chan.specs.Bridging.{unbridged}
+use Rattle.fs_state.specs.Switch.{Switch, without_bridge}
+use Rattle.fs_state.specs.Moves.{with_changed_chan}
+use Rattle.fs_state.specs.Hangups.{after_hangups}
+use Rattle.fs_state.specs.Leaving.{all_legs_at, after_parting, leaving_of, after_bridges_left, after_leaving_others}
+use Rattle.fs_machine.proofs.StayLemmas.{changed_there}
+use Rattle.fs_machine.proofs.HangLemmas.{members_as_left, hangs_as_left, stay_as_left}
+use Rattle.fs_machine.proofs.JoinLemmas.{DialsNone}
 use Rattle.fs_machine.proofs.LegLemmas.{roles_of}
 use Rattle.fs_machine.proofs.BondTables.{Bonds}
-use Rattle.fs_machine.proofs.BondLeaves.{Holds, holds_put, holds_hung, parted_bonds, other_off}
-use Rattle.fs_machine.proofs.OwnerLemmas.{Owned, dials_owns, alike_owned}
-use Rattle.fs_machine.proofs.OwnerHangups.{rest_owned, hung_owned}
-
--- it waits for no legs
-abbrev Dials : Chan → Type 0
-Dials c = awaited_by c ≡ None
-
-dials_falls : (hangs : ℕ → Bool) (seat : ℕ) (old new : Chan) → Falls hangs seat old new → Dials old → Dials new
-dials_falls hangs seat old new (Cut cause hung) h = refl
-dials_falls hangs seat old new (Unbridged cause) h = h
-dials_falls hangs seat old new (Rests outlives live) h = rest_dials old.socket old.state
-dials_falls hangs seat old new (Parks outlives live) h = rest_dials old.socket CsPark
+use Rattle.fs_machine.proofs.BondHangups.{survivors_dial_none, hung_bonds}
+use Rattle.fs_machine.proofs.BondLeaves.{parted_bonds, other_off}
+use Rattle.fs_machine.proofs.PartingLemmas.{parted_state, left_named, closure_at, partings_kept, survivors_as_left, leaving_ends}
+use Rattle.fs_machine.proofs.OwnerLemmas.{Owned, alike_owned}
+use Rattle.fs_machine.proofs.OwnerHangups.{closure_owned, hung_owned}
 
 -- a bridge ends
 freed_owned : (slot : ℕ) (s : Switch) → Owned (roles_of s) → Owned (roles_of (with_changed_chan (unbridged NormalClearing) slot s))
@@ -40,53 +28,35 @@ freed_owned slot s h =
     changed_there (λ (t : Switch). Owned (roles_of t)) (unbridged NormalClearing) slot s
     (λ c is. alike_owned (roles_of s) slot c (unbridged NormalClearing c) is refl refl refl h) h
 
-parted_owned : (found : Option Row) (s : Switch) → Owned (roles_of s) → Owned (roles_of (after_parting found s))
-parted_owned None s h = h
-parted_owned (Some row) s h =
+parting_owned : (row : Row) (s : Switch) → Owned (roles_of s) → Owned (roles_of (after_parting (row, NormalClearing) s))
+parting_owned row s h =
     let t : Switch = without_bridge row.number s in
     freed_owned row.answerer (with_changed_chan (unbridged NormalClearing) row.caller t) (freed_owned row.caller t h)
 
-record Owns (before : Switch) (slot : ℕ) (t : Switch) : Type 0 where
-  owned : Owned (roles_of t)
-  other : (one : ℕ × After) → left_behind slot before ≡ Some one → Holds Dials t one.0
+-- the bridges that they leave end
+parted_owned : (slots : List ℕ) (s : Switch) → Bonds s → Owned (roles_of s) → Owned (roles_of (parted_state slots s))
+parted_owned slots s bonds h =
+    partings_kept (λ (t : Switch). Owned (roles_of t)) (λ slot row t part k. parting_owned row t k) slots s bonds.rows h
 
-module _ (slot : ℕ) (s : Switch) (bonds : Bonds s) (h : Owned (roles_of s)) where
-  hung_owns : (found : Option Row) → row_at s slot ≡ found → Owns s slot (after_hangups (dropped_by slot s) (after_parting found s))
-  hung_owns found is =
-      let t : Switch = after_parting found s in
-      record {
-        owned = hung_owned (dropped_by slot s) t (parted_bonds slot s bonds found is) (parted_owned found s h);
-        other = λ one told.
-            holds_hung Dials dials_falls one.0 (dropped_by slot s) t (λ c there. (other_off slot s bonds found is one told c there).dials);
-      }
+-- whoever outlives one dials nothing then
+stay_dials : (slots : List ℕ) (s : Switch) → Bonds s → (one : ℕ × After) → IsOneOf one (leaving_of slots s).ends.survivors →
+    DialsNone (parted_state slots s) one.0
+stay_dials slots s bonds one is =
+    elim (survivors_as_left slots s (closure_at slots s) one
+    (subst (λ (e : Ends). IsOneOf one e.survivors) (leaving_ends slots s bonds) is)) [
+      | inl hung ↦ survivors_dial_none (left_named slots s) (parted_state slots s) one (parted_bonds slots s bonds) hung
+      | inr other ↦ λ c there. (other_off slots s bonds one other.0 c there).dials
+    ]
 
-  told_owns : (event : Event) (t : Switch) → Owns s slot t → Owns s slot (with_event event t)
-  told_owns event t k = record { owned = k.owned; other = k.other }
+bridges_left_owned : (slots : List ℕ) (s : Switch) → Bonds s → Owned (roles_of s) → Owned (roles_of (after_bridges_left slots s))
+unfolding after_bridges_left
+bridges_left_owned slots s bonds h =
+    closure_owned (hangs_as_left slots s) (leaving_of slots s).ends (parted_state slots s)
+    (λ m one. one_stands m (members_as_left slots s) one) (λ one is. stay_as_left slots s one is)
+    (λ one is. stay_dials slots s bonds one is) (parted_owned slots s bonds h)
 
-  put_owns : (at : ℕ) (c d : Chan) (t : Switch) → chan_at t at ≡ Some c → Holds Dials t at → Dials d → Owns s slot t →
-      Owns s slot (with_chan at (Some d) t)
-  put_owns at c d t there none rests k = record {
-    owned = rest_owned (roles_of t) at c d there (dials_owns (roles_of t) at (λ x is lived. none x is) k.owned) rests k.owned;
-    other = λ one told. holds_put Dials t one.0 at c d there (λ was. rests) (k.other one told);
-  }
-
-  outlives_owns : (one : ℕ × After) → left_behind slot s ≡ Some one → (t : Switch) → Owns s slot t →
-      Owns s slot (after_survival one.1 one.0 t)
-  outlives_owns one told t k = by (lives_at t one.0)
-    where
-      on : (what : After) → Owns s slot (after_outliving what one.0 t)
-      on GoOn =
-          told_owns (application_event ChannelExecuteComplete (running_at one.0 t) one.0) (after_move at_rest one.0 t)
-          (moved_there (Owns s slot) told_owns at_rest one.0 t
-          (λ c is. put_owns one.0 c (at_rest c) t is (k.other one told) (rest_dials c.socket c.state) k) k)
-      on Park =
-          moved_there (Owns s slot) told_owns parked one.0 t
-          (λ c is. put_owns one.0 c (parked c) t is (k.other one told) (rest_dials c.socket CsPark) k) k
-      on (Hangup cause) = k
-
-      by : (live : Bool) → Owns s slot (if live then after_outliving one.1 one.0 t else t)
-      by true = on one.1
-      by false = k
-
-  pub others_owned : Owned (roles_of (after_leaving_others slot s))
-  others_owned = (others_left s slot (Owns s slot) hung_owns outlives_owns).owned
+-- and before that the legs that they dialed are hung up
+pub others_owned : (slots : List ℕ) (s : Switch) → Bonds s → Owned (roles_of s) → Owned (roles_of (after_leaving_others slots s))
+others_owned slots s bonds h =
+    let named : Members = map (λ slot. (slot, OriginatorCancel)) (all_legs_at s slots) in
+    bridges_left_owned slots (after_hangups named s) (hung_bonds named s bonds) (hung_owned named s bonds h)

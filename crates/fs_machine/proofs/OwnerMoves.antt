@@ -1,17 +1,15 @@
 -- Each act leaves those waiting that own what they dialed, and whoever waits owns what it waits for, if that is there.
 use Rattle.std.proofs.Common.{◌≡◌, ℕ, ◌+◌, ◌-◌, ◌<◌, ◌^◌, Bool, true, false, if◌then◌else◌, List, [], ◌∷◌, length, Option, None, Some}
-use Rattle.std.proofs.Common.{option_and_then, unwrap_or, refl, sym, ap, subst, ◌∙◌, arith, true≢false, ◌≤◌, ◌==◌, ◌++◌, map, length-set}
+use Rattle.std.proofs.Common.{option_and_then, unwrap_or, refl, sym, ap, subst, ◌∙◌, arith, true≢false, ◌≤◌, ◌==◌, length-set}
 use Rattle.std.specs.Prelude.{is_some}
 use Rattle.std.proofs.lemmas.Bool.{false≢true, eqb-true}
 use Rattle.std.proofs.lemmas.Option.{none-some, same_Some}
 use Rattle.std.proofs.lemmas.Cmp.{nat_eq_equiv}
 use Rattle.fs_text.specs.declared.causes.Cause.{Cause}
-use Rattle.fs_text.specs.declared.causes.Cause.TheVariants.{OriginatorCancel}
 use Rattle.fs_text.specs.Texts.{Text}
 use Rattle.fs_text.specs.Cause.{cause_name}
 use Rattle.fs_bridge.specs.declared.row.BridgeKind.{BridgeKind}
 use Rattle.fs_bridge.specs.declared.row.BridgeKind.TheVariants.{Dial}
-use Rattle.fs_bridge.specs.Closure.{Members}
 use Rattle.fs_chan.specs.declared.chan.Chan.{Chan}
 use Rattle.fs_chan.specs.declared.wait.Wait.{Wait}
 use Rattle.fs_chan.specs.declared.wait.Wait.TheVariants.{Legs, Bridged}
@@ -40,7 +38,6 @@ use Rattle.fs_state.specs.declared.job.JobWork.{JobWork}
 use Rattle.fs_state.specs.declared.job.JobWork.TheVariants.{Originate}
 use Rattle.fs_state.specs.Switch.{Switch, chan_at, with_chan, with_new_conn, next_orig_number, orig_of, without_orig, with_bridge}
 use Rattle.fs_state.specs.Moves.{after_move_from, orig_changed, leg_changed, after_move, orig_given_up}
-use Rattle.fs_state.specs.Hangups.{legs_at, after_hangups}
 use Rattle.fs_state.specs.Bridging.{peer_of, with_peer_from, with_peer, joined_as}
 use Rattle.fs_state.proofs.LegTables.{berthed}
 use Rattle.fs_machine.specs.declared.call.Call.{Call}
@@ -56,13 +53,14 @@ use Rattle.fs_machine.specs.Sound.{Awaits, IsOwnedBy}
 use Rattle.fs_machine.specs.Bridging.{caller_of, group_dialed, goes_on, after_going_on, bridge_failed_from, after_bridge_failure}
 use Rattle.fs_machine.specs.Bridging.{after_bridge_win, disposed}
 use Rattle.fs_machine.specs.Dialing.{tried_by_slot}
-use Rattle.fs_machine.specs.Joining.{after_leaving, both_left}
+use Rattle.fs_machine.specs.Joining.{after_leaving, after_departures}
 use Rattle.fs_state.specs.Leaving.{after_leaving_others}
 use Rattle.fs_machine.proofs.NameLemmas.{leg_chan, far_chan, pair_channels}
 use Rattle.fs_machine.proofs.Kept.{Stage, Fact, Links, Keeps, KeptByTouches, KeptByCalls, KeptByBirths, KeptByDials, raced, KeptByMoves}
-use Rattle.fs_machine.proofs.Kept.{hold_in, IsApt, IsAtWork, apart_by, goes_on_by, let_go_by, KeptByApi}
+use Rattle.fs_machine.proofs.Kept.{hold_in, IsApt, IsAtWork, none_joined_by, goes_on_by, let_go_by, KeptByApi}
 use Rattle.fs_machine.proofs.StayLemmas.{state_told_kept, moved_there, changed_there, held_keeps}
 use Rattle.fs_machine.proofs.HangLemmas.{given_up_kept}
+use Rattle.fs_machine.proofs.LeaveLemmas.{farewells_kept}
 use Rattle.fs_machine.proofs.Walk.{disposed_kept, group_made_kept}
 use Rattle.fs_machine.proofs.LegLemmas.{Channels, Roles, roles_of, IsLegOf, LegsStand}
 use Rattle.fs_machine.proofs.LegBirths.{pair_roles, second_free, spared_births}
@@ -176,12 +174,11 @@ left_owned slot s h =
         subst (λ (aw : Option ℕ). OwnsNone (orig_given_up slot aw s).origs slot) (sym (ap (option_and_then awaited_by) was))
         (given_up_none slot c s was h)
 
--- two leave, once the legs are hung up that they dialed
-both_left_owned : (a b : ℕ) (s : Switch) → Bonds s → Owned (roles_of s) → Owned (roles_of (both_left a b s))
-both_left_owned a b s bonds h =
-    let named : Members = map (λ slot. (slot, OriginatorCancel)) (legs_at s a ++ legs_at s b) in
-    let t : Switch = after_hangups named s in
-    left_owned b (after_leaving a t) (left_owned a t (hung_owned named s bonds h))
+-- channels leave all that they were in
+departed_owned : (slots : List ℕ) (s : Switch) → Bonds s → Owned (roles_of s) → Owned (roles_of (after_departures slots s))
+departed_owned slots s bonds h =
+    farewells_kept (λ (t : Switch). Owned (roles_of t)) (λ event t k. k) left_owned slots (after_leaving_others slots s)
+    (others_owned slots s bonds h)
 
 gone_owned : (slot : ℕ) (old : Chan) (s : Switch) → chan_at s slot ≡ Some old → is_live old ≡ false → Owned (roles_of s) →
     Owned (roles_of (with_chan slot None s))
@@ -485,20 +482,15 @@ module _ (before : Switch) (stand : LegsStand (roles_of before)) (bonding : Kept
       owned = hung_owned named s h.bonds h.owned;
       room = tt;
     };
-    joined = λ kind a b c d {s = s} can one two lone alone first second was were h. record {
+    joined = λ kind a b c d {s = s} can one two lone alone first second was h. record {
       bonds = bonding.calls.joined kind a b c d {s = s} can one two lone alone first second
-          (apart_by a was (λ t k. k.bonds)) (apart_by b were (λ t k. k.bonds)) h.bonds;
+          (none_joined_by was (λ t k. k.bonds)) h.bonds;
       owned = joined_owned kind a b c d s one two first second h.owned;
       room = tt;
     };
-    leaves = λ one other {s = s} first second early h. record {
-      bonds = bonding.calls.leaves one other {s = s} first second early.bonds h.bonds;
-      owned = both_left_owned one other s h.bonds h.owned;
-      room = tt;
-    };
-    departs = λ slot {s = s} early h. record {
-      bonds = bonding.calls.departs slot {s = s} early.bonds h.bonds;
-      owned = left_owned slot (after_leaving_others slot s) (others_owned slot s h.bonds h.owned);
+    departs = λ slots {s = s} early h. record {
+      bonds = bonding.calls.departs slots {s = s} early.bonds h.bonds;
+      owned = departed_owned slots s h.bonds h.owned;
       room = tt;
     };
     more = λ {s = s} h. record { bonds = bonding.calls.more {s = s} h.bonds; owned = h.owned; room = tt };

@@ -1,13 +1,18 @@
 -- Each act keeps the agreement of loopback partners.
-use Rattle.std.proofs.Common.{◌≡◌, ℕ, ◌+◌, ◌==◌, Bool, true, false, List, [], ◌∷◌, Option, None, Some, option_and_then, unwrap_or, ◌⊎◌, inl}
-use Rattle.std.proofs.Common.{inr, refl, sym, ap, subst, ◌∙◌, arith, true≢false}
+use Rattle.std.proofs.Common.{◌≡◌, ℕ, ◌+◌, ◌==◌, Bool, true, false, List, [], ◌∷◌, Option, None, Some, option_map, option_and_then, ◌⊎◌}
+use Rattle.std.proofs.Common.{unwrap_or, inl, inr, refl, sym, ap, subst, ◌∙◌, arith, true≢false}
 use Rattle.std.specs.List.{find}
 use Rattle.std.proofs.lemmas.Bool.{cases_eq, eqb-true, or_cases, false≢true}
 use Rattle.std.proofs.lemmas.Option.{none-some}
 use Rattle.fs_text.specs.declared.causes.Cause.{Cause}
+use Rattle.fs_vars.specs.Variables.{Variables}
 use Rattle.fs_bridge.specs.declared.after.After.{After}
 use Rattle.fs_bridge.specs.Closure.{Members, Ends, closure_of}
+use Rattle.fs_bridge.specs.Leaving.{parted_world, first_round}
 use Rattle.fs_bridge.specs.Orders.{has_slot}
+use Rattle.fs_bridge.specs.Worlds.{World, IsSlot}
+use Rattle.fs_bridge.proofs.PartLemmas.{first_are_named_or_left}
+use Rattle.fs_bridge.proofs.SettledLemmas.{AreSlots}
 use Rattle.fs_chan.specs.declared.chan.Chan.{Chan}
 use Rattle.fs_chan.specs.Bridging.{unbridged, in_media}
 use Rattle.fs_chan.specs.Changes.{is_live, at_rest, parked, hung_up}
@@ -22,17 +27,20 @@ use Rattle.fs_state.specs.Moves.{after_move_from, after_move, orig_changed, part
 use Rattle.fs_state.specs.Hangups.{world_of, living_of, Ended, after_ends, is_leg_of, with_end_told, untold_by, after_member, after_members}
 use Rattle.fs_state.specs.Queues.{abort_told}
 use Rattle.fs_machine.proofs.AbortLemmas.{abort_channels}
-use Rattle.fs_state.specs.Hangups.{after_survivals, after_hangups}
+use Rattle.fs_state.specs.Hangups.{vars_of, after_survivals, after_closure, after_hangups}
+use Rattle.fs_state.specs.Leaving.{after_parting, after_partings, living_among, leaving_of, after_bridges_left}
 use Rattle.fs_machine.specs.declared.call.Call.{Call}
 use Rattle.fs_machine.specs.Originations.{pair_made, won_by, after_winning}
 use Rattle.fs_machine.proofs.Kept.{Stage, Fact, Remains, KeptByBirths, raced, KeptByMoves}
 use Rattle.fs_machine.proofs.StayLemmas.{new_lives, execute_lives, routing_lives, park_lives, exchange_lives, state_told_kept, moved_there}
 use Rattle.fs_machine.proofs.StayLemmas.{orig_changed_channels}
-use Rattle.fs_machine.proofs.ClosureLemmas.{NoneAtZero, hangs_up, members_lived, partner_hangs_up}
+use Rattle.fs_machine.proofs.ClosureLemmas.{NoneAtZero, chan_slot, are_slots, hangs_up, InSlots, partner_drops, partner_hangs_up}
 use Rattle.fs_machine.proofs.HangLemmas.{dies, Falls, Cut, Unbridged, Rests, Parks, ends_kept, members_kept, survivals_kept, hangups_kept}
+use Rattle.fs_machine.proofs.HangLemmas.{bridges_left_kept, hangs_as_left}
 use Rattle.fs_machine.proofs.NameLemmas.{leg_chan, far_chan, pair_channels}
 use Rattle.fs_machine.proofs.FrontLemmas.{Front, front_of, KeptByRemains, joins_by_remains, calls_by_remains, dials_by_remains}
-use Rattle.fs_machine.proofs.FrontLemmas.{moves_by_front, parts_by_remains}
+use Rattle.fs_machine.proofs.FrontLemmas.{moves_by_front}
+use Rattle.fs_machine.proofs.PartnerLemmas.{lone}
 use Rattle.fs_machine.proofs.TieLemmas.{lives_as, lives_in, HungAs, hung_by, named_in, Ties, ties_put, ties_gone, ties_joined}
 
 -- ---- who hangs up, and who does not
@@ -94,6 +102,14 @@ spared : (named : Members) (s : Switch) (slot : ℕ) → hangs_up slot named s �
 spared named s slot stays =
     hangups_kept named s (λ (t : Switch). Spared s t slot) (λ event t k. spared_told s t slot (with_event event t) refl k)
     (λ seat old new t there falls k. spared_falls (λ at. hangs_up at named s) s t slot seat old new stays there falls k)
+    (λ number t k. spared_told s t slot (without_bridge number t) refl k)
+    (λ cause seat leg number t k. spared_changed (dies cause seat leg) number s t slot k)
+    (λ number t k. spared_told s t slot (without_orig number t) refl k) (record { names = refl; live = λ lived. lived })
+
+spared_as_left : (slots : List ℕ) (s : Switch) (slot : ℕ) → hangs_as_left slots s slot ≡ false → Spared s (after_bridges_left slots s) slot
+spared_as_left slots s slot stays =
+    bridges_left_kept slots s (λ (t : Switch). Spared s t slot) (λ event t k. spared_told s t slot (with_event event t) refl k)
+    (λ seat old new t there falls k. spared_falls (hangs_as_left slots s) s t slot seat old new stays there falls k)
     (λ number t k. spared_told s t slot (without_bridge number t) refl k)
     (λ cause seat leg number t k. spared_changed (dies cause seat leg) number s t slot k)
     (λ number t k. spared_told s t slot (without_orig number t) refl k) (record { names = refl; live = λ lived. lived })
@@ -196,21 +212,38 @@ cut_in untold (m ∷ members) slot t is live =
         (hung_here m.1 m.0 u (ap (lives_in u.channels) (sym same) ∙ alive)))
     by more (inr other) = more (after_member untold m t) (later other) (hung_elsewhere m.1 m.0 slot u other ∙ alive)
 
-ends_spared : (ended : List Ended) (s : Switch) (slot : ℕ) → Spared s (after_ends ended s) slot
-ends_spared ended s slot =
-    ends_kept (λ at. false) (λ (t : Switch). Spared s t slot) (λ event t k. spared_told s t slot (with_event event t) refl k)
-    (λ seat old new t there falls k. spared_falls (λ at. false) s t slot seat old new refl there falls k)
-    (λ number t k. spared_told s t slot (without_bridge number t) refl k)
-    (λ cause seat leg number t k. spared_changed (dies cause seat leg) number s t slot k)
-    (λ number t k. spared_told s t slot (without_orig number t) refl k) ended s (record { names = refl; live = λ lived. lived })
+-- whose bridge ends is spared by that
+ends_spared : (ended : List Ended) (s t : Switch) (slot : ℕ) → Spared s t slot → Spared s (after_ends ended t) slot
+ends_spared ended s t slot h =
+    ends_kept (λ at. false) (λ (u : Switch). Spared s u slot) (λ event u k. spared_told s u slot (with_event event u) refl k)
+    (λ seat old new u there falls k. spared_falls (λ at. false) s u slot seat old new refl there falls k)
+    (λ number u k. spared_told s u slot (without_bridge number u) refl k)
+    (λ cause seat leg number u k. spared_changed (dies cause seat leg) number s u slot k)
+    (λ number u k. spared_told s u slot (without_orig number u) refl k) ended t h
+
+partings_spared : (parted : List Ended) (s t : Switch) (slot : ℕ) → Spared s t slot → Spared s (after_partings parted t) slot
+partings_spared [] s t slot h = h
+partings_spared (e ∷ parted) s t slot h =
+    partings_spared parted s (after_parting e t) slot
+    (spared_told s (after_ends (e ∷ []) t) slot (after_parting e t) refl (ends_spared (e ∷ []) s t slot h))
 
 -- whoever hangs up names none
-cut : (named : Members) (s : Switch) (slot : ℕ) → hangs_up slot named s ≡ true → NamesNone slot (after_hangups named s)
-unfolding after_hangups
-cut named s slot is =
-    let e : Ends = closure_of (world_of s) (living_of s named) in
-    none_survivals e.survivors slot (after_members e.ended e.members (after_ends e.ended s))
-    (cut_in e.ended e.members slot (after_ends e.ended s) is ((ends_spared e.ended s slot).live (members_lived named s slot is)))
+cut : (e : Ends) (s t : Switch) (slot : ℕ) → Ties partner_of s.channels → Spared s t slot → has_slot slot e.members ≡ true →
+    NamesNone slot (after_closure e t)
+cut e s t slot ties spares is =
+    none_survivals e.survivors slot (after_members e.ended e.members u) (by (lives_in s.channels slot) refl)
+  where
+    u : Switch
+    u = after_ends e.ended t
+
+    so : Spared s u slot
+    so = ends_spared e.ended s t slot spares
+
+    by : (live : Bool) → lives_in s.channels slot ≡ live → NamesNone slot (after_members e.ended e.members u)
+    by true live = cut_in e.ended e.members slot u is (so.live live)
+    by false dead =
+        none_members e.ended e.members slot u
+        (so.names ∙ lone (named_in partner_of s.channels) (lives_in s.channels) slot ties.live dead)
 
 -- ---- partners agree, and nothing stands in slot 0
 
@@ -221,27 +254,68 @@ pub record ArePaired (s : Switch) : Type 0 where
 abbrev pub Partners : Fact
 Partners b s = ArePaired s
 
+-- it stays so where whoever hangs up names none, and its partner hangs up with it, and all others are spared
+module _ (hangs : ℕ → Bool) (s t : Switch) (spares : (slot : ℕ) → hangs slot ≡ false → Spared s t slot)
+    (cuts : (slot : ℕ) → hangs slot ≡ true → NamesNone slot t)
+    (both : (slot partner : ℕ) → named_in partner_of s.channels slot ≡ Some partner → lives_in s.channels partner ≡ true →
+    hangs slot ≡ true → hangs partner ≡ true) (h : Ties partner_of s.channels) where
+  named_then : (a b : ℕ) → named_in partner_of t.channels a ≡ Some b → (test : Bool) → hangs a ≡ test →
+      (named_in partner_of s.channels a ≡ Some b) × (hangs a ≡ false)
+  named_then a b e true is = absurd (none-some b (sym (cuts a is) ∙ e))
+  named_then a b e false is = (sym (spares a is).names ∙ e, is)
+
+  named_back : (a b : ℕ) → (named_in partner_of s.channels a ≡ Some b) × (hangs a ≡ false) → (test : Bool) → hangs b ≡ test →
+      named_in partner_of t.channels b ≡ Some a
+  named_back a b was true is = absurd (true≢false (sym (both b a (h.back a b was.0) (h.live a b was.0) is) ∙ was.1))
+  named_back a b was false is = (spares b is).names ∙ h.back a b was.0
+
+  ties_then : Ties partner_of t.channels
+  ties_then = record {
+    back = λ a b e. named_back a b (named_then a b e (hangs a) refl) (hangs b) refl;
+    live = λ a b e. let was = named_then a b e (hangs a) refl in (spares a was.1).live (h.live a b was.0);
+  }
+
 hung_ties : (named : Members) (s : Switch) → ArePaired s → Ties partner_of (after_hangups named s).channels
-hung_ties named s h = record {
-  back = λ a b e. let was = before a b e (hangs_up a named s) refl in back a b was (hangs_up b named s) refl;
-  live = λ a b e. let was = before a b e (hangs_up a named s) refl in (spared named s a was.1).live (h.ties.live a b was.0);
-}
+unfolding after_hangups
+hung_ties named s h =
+    ties_then (λ at. hangs_up at named s) s (after_hangups named s) (spared named s)
+    (λ slot is. cut (closure_of (world_of s) (living_of s named)) s s slot h.ties (record { names = refl; live = λ lived. lived }) is)
+    (λ slot partner names live is. partner_hangs_up named s slot partner h.zero names live is) h.ties
+
+-- who are left and hang up stand in slots
+left_within : (slots : List ℕ) (s : Switch) → NoneAtZero s →
+    InSlots (parted_world (world_of s) (living_among s slots)) (first_round (world_of s) [] (living_among s slots))
+left_within slots s zero m one =
+    elim ((first_are_named_or_left (world_of s) [] (living_among s slots) m).0 one) [
+      | inl none ↦ absurd none
+      | inr behind ↦ by (chan_at s m.0) refl behind.other.vars behind.other.own
+    ]
   where
-    t : Switch
-    t = after_hangups named s
+    by : (found : Option Chan) → chan_at s m.0 ≡ found → (vars : Variables) → option_map vars_of found ≡ Some vars →
+        IsSlot (parted_world (world_of s) (living_among s slots)) m.0
+    by None is vars own = absurd (none-some vars own)
+    by (Some c) is vars own = let its = chan_slot s zero m.0 c is in record { first = its.first; last = its.last }
 
-    before : (a b : ℕ) → named_in partner_of t.channels a ≡ Some b → (test : Bool) → hangs_up a named s ≡ test →
-        (named_in partner_of s.channels a ≡ Some b) × (hangs_up a named s ≡ false)
-    before a b e true is = absurd (none-some b (sym (cut named s a is) ∙ e))
-    before a b e false is = (sym (spared named s a is).names ∙ e, is)
+left_ties : (slots : List ℕ) (s : Switch) → ArePaired s → Ties partner_of (after_bridges_left slots s).channels
+unfolding after_bridges_left
+left_ties slots s h =
+    ties_then (hangs_as_left slots s) s (after_bridges_left slots s) (spared_as_left slots s)
+    (λ slot is. cut (leaving_of slots s).ends s (after_partings parted s) slot h.ties
+    (partings_spared parted s s slot (record { names = refl; live = λ lived. lived })) is)
+    (λ slot partner names live is. partner_drops w (first_round (world_of s) [] left) slot partner there
+    (left_within slots s h.zero) names live is) h.ties
+  where
+    left : List ℕ
+    left = living_among s slots
 
-    back : (a b : ℕ) → (named_in partner_of s.channels a ≡ Some b) × (hangs_up a named s ≡ false) → (test : Bool) →
-        hangs_up b named s ≡ test → named_in partner_of t.channels b ≡ Some a
-    back a b was true is =
-        absurd
-        (true≢false
-        (sym (partner_hangs_up named s b a h.zero (h.ties.back a b was.0) (h.ties.live a b was.0) is) ∙ was.1))
-    back a b was false is = (spared named s b is).names ∙ h.ties.back a b was.0
+    parted : List Ended
+    parted = (leaving_of slots s).parted
+
+    w : World
+    w = parted_world (world_of s) left
+
+    there : AreSlots w
+    there slot live = let its = are_slots s h.zero slot live in record { first = its.first; last = its.last }
 
 pub zero_put : (s : Switch) (seat : ℕ) (new : Option Chan) → (seat ≡ 0 → ⊥) → NoneAtZero s → NoneAtZero (with_chan seat new s)
 zero_put s seat new apart zero = held_there s.channels seat 0 new (λ same. apart (sym same)) ∙ zero
@@ -253,6 +327,15 @@ not_zero s seat c there zero same = none-some c (sym zero ∙ (ap (chan_at s) (s
 pub hung_zero : (named : Members) (s : Switch) → NoneAtZero s → NoneAtZero (after_hangups named s)
 hung_zero named s zero =
     hangups_kept named s NoneAtZero (λ event t k. k)
+    (λ seat old new t there falls k. zero_put t seat (Some new) (not_zero t seat old there k) k) (λ number t k. k)
+    (λ cause seat leg number t k. ap (λ (channels : List (Option Chan)). held_in channels 0)
+    (orig_changed_channels (dies cause seat leg) number t)
+    ∙ k)
+    (λ number t k. k) zero
+
+left_zero : (slots : List ℕ) (s : Switch) → NoneAtZero s → NoneAtZero (after_bridges_left slots s)
+left_zero slots s zero =
+    bridges_left_kept slots s NoneAtZero (λ event t k. k)
     (λ seat old new t there falls k. zero_put t seat (Some new) (not_zero t seat old there k) k) (λ number t k. k)
     (λ cause seat leg number t k. ap (λ (channels : List (Option Chan)). held_in channels 0)
     (orig_changed_channels (dies cause seat leg) number t)
@@ -314,13 +397,9 @@ remains_partners = record {
       (λ rows b t k. record { ties = k.ties; zero = k.zero })
       (λ slot old new b t there remains holder k. put slot old new t there remains k)
       kind caller answerer b s h;
-  parts = λ slot row {b = b} {s = s} part h.
-      parts_by_remains Partners (λ event b t k. record { ties = k.ties; zero = k.zero })
-      (λ rows b t k. record { ties = k.ties; zero = k.zero })
-      (λ slot old new b t there remains holder k. put slot old new t there remains k)
-      row b s h;
   remains = λ slot old new {s = s} there remains holder h. put slot old new s there remains h;
   hung = λ named {s = s} h. record { ties = hung_ties named s h; zero = hung_zero named s h.zero };
+  leaves = λ slots {s = s} h. record { ties = left_ties slots s h; zero = left_zero slots s h.zero };
   more = λ h. h;
   gone = λ slot old {s = s} there dead h. record {
     ties = ties_gone partner_of s.channels slot old there dead h.ties;

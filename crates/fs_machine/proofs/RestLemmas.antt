@@ -33,6 +33,7 @@ use Rattle.fs_state.specs.Switch.{Switch, chan_at, with_bridge, orig_of, without
 use Rattle.fs_state.specs.Moves.{after_move, with_changed_chan, orig_changed_from, orig_changed, leg_changed}
 use Rattle.fs_state.specs.Moves.{after_answer, orig_given_up}
 use Rattle.fs_state.specs.Hangups.{after_hangups}
+use Rattle.fs_state.specs.Leaving.{after_bridges_left}
 use Rattle.fs_state.specs.Bridging.{can_join, peer_of, with_peer_from, with_peer, joined_as}
 use Rattle.fs_machine.specs.declared.call.Call.{Call}
 use Rattle.fs_machine.specs.Originations.{leg_end, pair_made, MadeGroup, group_made, won_by, after_winning}
@@ -40,15 +41,13 @@ use Rattle.fs_machine.specs.Attempts.{first_group, orig_begun, with_group}
 use Rattle.fs_machine.specs.Bridging.{caller_of, group_dialed, goes_on, after_going_on, bridge_failed_from, after_bridge_failure, disposed}
 use Rattle.fs_machine.specs.Bridging.{after_bridge_win}
 use Rattle.fs_machine.specs.Dialing.{tried_by_slot}
-use Rattle.fs_machine.specs.Joining.{after_leaving}
-use Rattle.fs_machine.specs.Leaving.{after_departure}
-use Rattle.fs_machine.proofs.JoinLemmas.{both_left_kept}
+use Rattle.fs_machine.specs.Joining.{after_leaving, after_departures}
 use Rattle.fs_machine.proofs.LeaveLemmas.{departed_kept}
 use Rattle.fs_machine.specs.Work.{after_work}
 use Rattle.fs_machine.proofs.Kept.{Stage, Fact, KeptByTouches, KeptByCalls, KeptByBirths, DoesJob, KeptByDials, raced}
 use Rattle.fs_machine.proofs.NameLemmas.{leg_by}
 use Rattle.fs_machine.proofs.StayLemmas.{moved_there, changed_there}
-use Rattle.fs_machine.proofs.HangLemmas.{dies, hangups_kept, given_up_kept}
+use Rattle.fs_machine.proofs.HangLemmas.{dies, hangups_kept, bridges_left_kept, given_up_kept}
 use Rattle.fs_machine.proofs.Walk.{answered_kept, disposed_kept, worked_kept, group_made_kept}
 
 -- what is left of a switch without channels, bridges, originations, globals, news, and the numbers that these draw
@@ -118,6 +117,11 @@ hung_rest named s =
     hangups_kept named s (λ (t : Switch). rest_of t ≡ rest_of s) (λ event t h. h) (λ slot old new t is falls h. h) (λ number t h. h)
     (λ cause seat leg number t h. orig_changed_rest (dies cause seat leg) number t ∙ h) (λ number t h. h) refl
 
+bridges_left_rest : (slots : List ℕ) (s : Switch) → rest_of (after_bridges_left slots s) ≡ rest_of s
+bridges_left_rest slots s =
+    bridges_left_kept slots s (λ (t : Switch). rest_of t ≡ rest_of s) (λ event t h. h) (λ slot old new t is falls h. h) (λ number t h. h)
+    (λ cause seat leg number t h. orig_changed_rest (dies cause seat leg) number t ∙ h) (λ number t h. h) refl
+
 given_up_rest : (slot : ℕ) (awaited : Option ℕ) (s : Switch) → rest_of (orig_given_up slot awaited s) ≡ rest_of s
 given_up_rest slot awaited s = given_up_kept (λ (t : Switch). rest_of t ≡ rest_of s) (λ number t h. h) slot awaited s refl
 
@@ -138,10 +142,10 @@ joined_rest kind caller answerer s =
     let t : Switch = with_bridge caller answerer kind s in
     peer_rest answerer caller (with_peer caller answerer t) ∙ peer_rest caller answerer t
 
-departed_rest : (slot : ℕ) (s : Switch) → rest_of (after_departure slot s) ≡ rest_of s
-departed_rest slot s =
-    departed_kept (λ (t : Switch). rest_of t ≡ rest_of s) (λ event t h. h) (λ at old new t there settles h. h) (λ number t h. h)
-    (λ named t h. hung_rest named t ∙ h) (λ at t h. left_rest at t ∙ h) slot s refl
+departed_rest : (slots : List ℕ) (s : Switch) → rest_of (after_departures slots s) ≡ rest_of s
+departed_rest slots s =
+    departed_kept (λ (t : Switch). rest_of t ≡ rest_of s) (λ event t h. h) (λ at t h. left_rest at t ∙ h)
+    (λ named t h. hung_rest named t ∙ h) (λ all t h. bridges_left_rest all t ∙ h) slots s refl
 
 -- ---- facts on the rest
 
@@ -161,12 +165,9 @@ module _ (P : Fact) (same : (b : Stage) (t u : Switch) → P b t → rest_of u �
   calls_by_rest = record {
     touches = touches_by_rest;
     hung = λ named {s = s} early h. same (Some 0) s _ h (hung_rest named s);
-    joined = λ kind caller answerer c d {s = s} can there other one two first second was were h.
+    joined = λ kind caller answerer c d {s = s} can there other one two first second was h.
         same (Some 0) s _ h (joined_rest kind caller answerer s);
-    leaves = λ one other {s = s} first second early h. same (Some 0) s _ h
-        (both_left_kept (λ (t : Switch). rest_of t ≡ rest_of s) (λ named t k. hung_rest named t ∙ k) (λ slot t apart k. left_rest slot t ∙ k)
-        one other s first second refl);
-    departs = λ slot {s = s} early h. same (Some 0) s _ h (departed_rest slot s);
+    departs = λ slots {s = s} early h. same (Some 0) s _ h (departed_rest slots s);
     more = λ {s = s} h. more s h;
     gone = λ slot old there dead early h. more _ (same _ _ _ h refl);
   }

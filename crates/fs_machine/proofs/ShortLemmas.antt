@@ -13,6 +13,7 @@ use Rattle.fs_text.specs.declared.causes.Cause.TheVariants.{NoRouteDestination, 
 use Rattle.fs_vars.specs.declared.profile.Profile.{Profile}
 use Rattle.fs_api.specs.declared.api.Api.{Api}
 use Rattle.fs_api.specs.declared.api.Api.TheVariants as api
+use Rattle.fs_api.specs.declared.side.Side.{Side}
 use Rattle.fs_api.specs.declared.usages.Which.{Which}
 use Rattle.fs_api.specs.declared.usages.Which.TheVariants as which
 use Rattle.fs_api.specs.Originates as originates
@@ -20,6 +21,7 @@ use Rattle.fs_api.specs.Words.{quoted_word, behind_quoted}
 use Rattle.fs_api.specs.Readings as readings
 use Rattle.fs_api.specs.Transfers as transfers
 use Rattle.fs_api.specs.Readings.{api_named, api_of, expanded_api_of, without_expand}
+use Rattle.fs_api.proofs.RangeLemmas.{sent_short as side_short}
 use Rattle.fs_app.specs.declared.application.Application.{Application}
 use Rattle.fs_app.specs.declared.application.Application.TheVariants as app
 use Rattle.fs_app.specs.Applications as apps
@@ -136,7 +138,7 @@ application_short name argument = assigned_short (assignment_named name) argumen
 
 abbrev pub NamesShort : Api → Type 0
 NamesShort (api.Originate url winner cid_name cid_number timeout) = IsShortWinner winner
-NamesShort (api.UuidTransfer uuid to) = IsShortTarget to
+NamesShort (api.UuidTransfer uuid side to) = IsShortTarget to
 NamesShort _ = Unit {0}
 
 winner_by : (test : Bool) (x y : Option Winner) → (test ≡ true → IfSome x IsShortWinner) → (test ≡ false → IfSome y IsShortWinner) →
@@ -216,12 +218,15 @@ reading_short : (arguments : Text) → NamesShort (readings.uuid_getvar_of argum
 reading_short arguments =
     needs_short which.UuidGetvar (λ name. api.UuidGetvar (word_of arguments) (word_of name)) (behind_word arguments) (λ name. tt)
 
-transferred_short : (uuid : Text) (to : Option Target3) → IfSome to IsShortTarget → NamesShort (transfers.transfer_to uuid to)
-transferred_short uuid None short = tt
-transferred_short uuid (Some to) short = short
+transferred_short : (uuid : Text) (side : Side) (to : Option Target3) → IfSome to IsShortTarget → NamesShort (transfers.transfer_to uuid side to)
+transferred_short uuid side None short = tt
+transferred_short uuid side (Some to) short = short
 
 transferring_short : (arguments : Text) → NamesShort (transfers.uuid_transfer_of arguments)
-transferring_short arguments = transferred_short (word_of arguments) _ (words_short (behind_word arguments))
+transferring_short arguments =
+    let words : Text = behind_word arguments in
+    let side : Side = transfers.side_of (word_of words) in
+    transferred_short (word_of arguments) side (transfers.sent_to side words) (side_short side words)
 
 setting_short : (arguments : Text) → NamesShort (readings.uuid_setvar_of arguments)
 setting_short arguments =

@@ -243,10 +243,9 @@ calls_still : KeptByCalls Still
 calls_still = record {
   touches = touches_still;
   hung = λ named {s = s} early h. calls_go.hung named {s = s} early h;
-  joined = λ kind caller answerer c d {s = s} can there other one two first second was were h.
+  joined = λ kind caller answerer c d {s = s} can there other one two first second was h.
       same_by_rest s (joined_as kind caller answerer s) (joined_rest kind caller answerer s) ∙ h;
-  leaves = λ one other {s = s} first second early h. calls_go.leaves one other {s = s} first second early h;
-  departs = λ slot {s = s} early h. calls_go.departs slot {s = s} early h;
+  departs = λ slots {s = s} early h. calls_go.departs slots {s = s} early h;
   more = λ h. inl h;
   gone = λ slot old there dead early h. inl h;
 }

@@ -80,7 +80,7 @@ use Rattle.fs_machine.proofs.StayLemmas.{variables_quiet, assignment_quiet, answ
 use Rattle.fs_machine.proofs.StayLemmas.{application_plain, moved_plain, changed_there, moved_works, changed_works, answered_works}
 use Rattle.fs_machine.proofs.StayLemmas.{hangup_dead}
 use Rattle.fs_machine.proofs.TryWalk.{verdict_kept}
-use Rattle.fs_machine.proofs.CanLemmas.{caller_lone, answerer_lone, caller_lives, answerer_lives}
+use Rattle.fs_machine.proofs.CanLemmas.{caller_lives, answerer_lives}
 use Rattle.fs_machine.proofs.JoinLemmas.{DialsNone, CanMeet, meets_now, ready_lone}
 use Rattle.fs_machine.specs.Joining.{is_ready}
 use Rattle.fs_machine.specs.Queueing.{after_queueing, after_take, after_no_caller, after_taking_of, after_taking}
@@ -205,7 +205,7 @@ behind_filled pairs [] some = some
 behind_filled pairs (plan ∷ plans) some = refl
 
 -- a channel that nothing holds waits for no legs
-free_dials : (wait : Wait) → hold_in wait ≡ Ready → awaited_in wait ≡ None
+pub free_dials : (wait : Wait) → hold_in wait ≡ Ready → awaited_in wait ≡ None
 free_dials (Legs orig) is = absurd (cc is)
 free_dials _ is = refl
 
@@ -423,22 +423,17 @@ module _ (before : Switch) (P : Fact) (kept : KeptByCalls P) (dials : KeptByDial
       popped : P None t
       popped = kept.touches.told (queue_event CallerPop name caller) (refl, tt) h
 
-      meets : (seat : ℕ) → is_ready (chan_at s seat) ≡ true → lives_at t seat ≡ true → bridge_at t seat ≡ None → DialsNone s seat →
-          CanMeet t seat
-      meets seat ready live none dials_none =
-          meets_now t seat live (record { bridge = none; lone = ready_lone (chan_at s seat) ready }) dials_none
+      meets : (seat : ℕ) → is_ready (chan_at s seat) ≡ true → lives_at t seat ≡ true → DialsNone s seat → CanMeet t seat
+      meets seat ready live dials_none = meets_now t seat live (ready_lone (chan_at s seat) ready) dials_none
 
       joined : is_ready (chan_at s caller) ≡ true → is_ready (chan_at s slot) ≡ true → (test : Bool) → can_join caller slot t ≡ test →
           P (Some 0) (if test then joined_as Fifo caller slot t else t)
       joined one two true can =
-          let none = caller_lone caller slot t can in
-          let other = answerer_lone caller slot t can in
-          let first : CanMeet t caller = meets caller one (caller_lives caller slot t can) none dials_none in
+          let first : CanMeet t caller = meets caller one (caller_lives caller slot t can) dials_none in
           let second : CanMeet t slot =
-          meets slot two (answerer_lives caller slot t can) other (λ c there. free_dials c.wait (is_at_work s.channels slot c at there).free) in
+          meets slot two (answerer_lives caller slot t can) (λ c there. free_dials c.wait (is_at_work s.channels slot c at there).free) in
           kept.joined Fifo caller slot first.chan second.chan can first.there second.there first.lone second.lone first.free second.free
-          (record { past = t; first = popped; apart = none; drawn = refl }) (record { past = t; first = popped; apart = other; drawn = refl })
-          (dials.spent popped)
+          (record { past = t; first = popped; drawn = refl }) (dials.spent popped)
       joined one two false can = dials.spent popped
 
       by : (one : Bool) → is_ready (chan_at s caller) ≡ one → (two : Bool) → is_ready (chan_at s slot) ≡ two →

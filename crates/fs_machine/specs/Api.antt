@@ -11,6 +11,7 @@ use Rattle.fs_vars.specs.Variables.{can_set, set_to}
 use Rattle.fs_vars.specs.Expansion.{expanded}
 use Rattle.fs_api.specs.declared.api.Api.{Api}
 use Rattle.fs_api.specs.declared.api.Api.TheVariants as api
+use Rattle.fs_api.specs.declared.side.Side.TheVariants.{This}
 use Rattle.fs_api.specs.Readings.{expanded_api_of}
 use Rattle.fs_api.specs.Usages.{usage_of}
 use Rattle.fs_chan.specs.declared.chan.Chan.{Chan}
@@ -149,8 +150,8 @@ done_plainly by (api.Msleep milliseconds) s = msleep_done by milliseconds s
 done_plainly by (api.UuidExists uuid) s = says (told_whether (is_some (slot_named uuid s))) s
 done_plainly by (api.UuidKill uuid cause) s = killed_as cause uuid s
 done_plainly by (api.UuidBridge uuid other) s = uuid_bridge_done uuid other s
-done_plainly by (api.UuidPark uuid) s = sent_done parked uuid s
-done_plainly by (api.UuidTransfer uuid to) s = sent_done (transferred to) uuid s
+done_plainly by (api.UuidPark uuid) s = sent_done parked This uuid s
+done_plainly by (api.UuidTransfer uuid side to) s = sent_done (transferred to) side uuid s
 done_plainly by (api.UuidSetvar uuid name value) s = set_variable uuid name value s
 done_plainly by (api.UuidGetvar uuid name) s = says (variable_text name (chan_named uuid s)) s
 done_plainly by (api.UuidDump uuid) s = says (dump_text (chan_named uuid s)) s

@@ -1,9 +1,10 @@
 -- What the events of a run tell of bridges.
-use Rattle.std.specs.Prelude.{◌≡◌, ◌≤◌, ℕ, ◌+◌, ◌-◌, ◌^◌, min, Bool, true, false, ◌&&◌, List, ◌∷◌, ◌++◌, length, is_some, count_by}
+use Rattle.std.specs.Prelude.{◌≡◌, ◌≤◌, ℕ, ◌+◌, ◌-◌, ◌^◌, min, Bool, true, false, ◌||◌, ◌&&◌, List, ◌∷◌, ◌++◌, length, is_some, count_by}
 use Rattle.fs_text.specs.declared.event_names.EventName.TheVariants.{ChannelBridge, ChannelUnbridge}
 use Rattle.fs_text.specs.EventName.{event_number}
 use Rattle.fs_doc.specs.Reading.{Configuration}
-use Rattle.fs_bridge.specs.Bridges.{has_number, numbered}
+use Rattle.fs_bridge.specs.declared.row.Row.{Row}
+use Rattle.fs_bridge.specs.Bridges.{has_leg, has_number, numbered}
 use Rattle.fs_state.specs.declared.event.Detail.{Detail}
 use Rattle.fs_state.specs.declared.event.Detail.TheVariants.{Bridge, Unbridge}
 use Rattle.fs_state.specs.declared.event.Event.{Event}
@@ -61,6 +62,18 @@ abbrev pub EndsStandBehind : List Event → Type 0
 EndsStandBehind events =
     (number : ℕ) (before behind : List Event) (event : Event) → events ≡ before ++ event ∷ behind → ends number event ≡ true →
     begun number before ≡ 1
+
+-- two bridges have a leg in common
+abbrev pub shares_leg : Row → Row → Bool
+shares_leg one other = has_leg one.caller other || has_leg one.answerer other
+
+-- Between an event that tells the beginning of a bridge and each later one that tells the beginning of another of its legs' stands one that
+-- tells its end, also within one entry.
+abbrev pub EndsStandBetween : List Event → Type 0
+EndsStandBetween events =
+    (one other : Row) (before between behind : List Event) (first later : Event) →
+    events ≡ before ++ first ∷ (between ++ later ∷ behind) → first.detail ≡ Bridge one → later.detail ≡ Bridge other →
+    shares_leg one other ≡ true → ended one.number between ≡ 1
 
 -- how many bridges stand
 abbrev pub standing : Switch → ℕ

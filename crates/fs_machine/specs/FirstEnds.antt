@@ -1,5 +1,5 @@
 -- What the end of a bridge leaves of its legs.
-use Rattle.std.specs.Prelude.{◌≡◌, Option, None, Some, codes, List}
+use Rattle.std.specs.Prelude.{◌≡◌, ◌<◌, ◌⊎◌, ℕ, None, Some, codes, List}
 use Rattle.fs_text.specs.Cause.{cause_name}
 use Rattle.fs_text.specs.declared.causes.Cause.{Cause}
 use Rattle.fs_vars.specs.Pairs.{value_of}
@@ -10,19 +10,26 @@ use Rattle.fs_state.specs.declared.event.Detail.TheVariants.{Unbridge}
 use Rattle.fs_state.specs.declared.event.Event.{Event}
 use Rattle.fs_state.specs.Switch.{Switch, chan_at, bridge_at}
 
--- a channel is there, live or hung up; it names no peer, and a variable tells the cause of which its bridge ended
-pub record IsLetGo (found : Option Chan) (cause : Cause) : Type 0 where
+-- a slot is in a bridge whose number none had before
+pub record IsJoinedSince (old new : Switch) (slot : ℕ) : Type 0 where
+  pub row : Row
+  pub part : bridge_at new slot ≡ Some row
+  pub number : old.bridges.drawn < row.number
+
+-- a channel is there, live or hung up; a variable tells the cause of which its bridge ended, and it names no peer, or one of a bridge that
+-- was joined since
+pub record IsLetGo (old new : Switch) (slot : ℕ) (cause : Cause) : Type 0 where
   pub chan : Chan
-  pub there : found ≡ Some chan
-  pub alone : chan.peer ≡ None
+  pub there : chan_at new slot ≡ Some chan
+  pub apart : (chan.peer ≡ None) ⊎ IsJoinedSince old new slot
   pub told : value_of chan.vars.pairs (codes "bridge_hangup_cause") ≡ Some (cause_name cause)
 
 -- a bridge that stood before has ended of a cause, and both of its legs have been let go
 pub record IsRecorded (old new : Switch) (row : Row) (cause : Cause) : Type 0 where
   pub caller_was : bridge_at old row.caller ≡ Some row
   pub answerer_was : bridge_at old row.answerer ≡ Some row
-  pub caller : IsLetGo (chan_at new row.caller) cause
-  pub answerer : IsLetGo (chan_at new row.answerer) cause
+  pub caller : IsLetGo old new row.caller cause
+  pub answerer : IsLetGo old new row.answerer cause
 
 -- each end of a bridge that these events tell is one of a bridge that stood before, and both legs are let go of that cause
 abbrev pub EndsAreRecorded : Switch → Switch → List Event → Type 0

@@ -45,9 +45,9 @@ not_ready = codes "-ERR Channel not ready!\n"
 abbrev pub not_answered : List ℕ
 not_answered = codes "-ERR Channel not answered!\n"
 
--- one of them is in a bridge
-abbrev pub already_bridged : List ℕ
-already_bridged = codes "-ERR Channel already bridged!\n"
+-- it is in no bridge
+abbrev pub not_bridged : List ℕ
+not_bridged = codes "-ERR Channel not bridged!\n"
 
 -- ---- variables, jobs and originations
 

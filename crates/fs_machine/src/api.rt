@@ -25,7 +25,7 @@ use crate::owing::{Giver, begin_job};
 use crate::reloading::reload;
 use crate::shutdown::shut_down;
 use crate::texts::{api_not_found, failed_text, hupall_text, says, usage_text};
-use fs_api::{Api, usage};
+use fs_api::{Api, Side, usage};
 use fs_chan::{Chan, moment_after};
 use fs_dial::{DialKind, DialString, parse};
 use fs_orig::{Caller, LegPlans, Winner, braces_timeout};
@@ -148,10 +148,10 @@ fn run_plainly(draft: &mut Draft<'_>, giver: &Giver, api: &Api) -> Result<Option
         Api::UuidExists { uuid } => tell_whether(draft, uuid),
         Api::UuidKill { uuid, cause } => kill(draft, uuid, *cause),
         Api::UuidBridge { uuid, other } => bridge_channels(draft, uuid, other),
-        Api::UuidPark { uuid } => send_channel(draft, uuid, Onward::Park),
-        Api::UuidTransfer { uuid, to } => {
+        Api::UuidPark { uuid } => send_channel(draft, uuid, Side::This, Onward::Park),
+        Api::UuidTransfer { uuid, side, to } => {
             let to = to.copy()?;
-            send_channel(draft, uuid, Onward::Transfer(to))
+            send_channel(draft, uuid, *side, Onward::Transfer(to))
         }
         Api::UuidSetvar { uuid, name, value } => set_variable(draft, uuid, name, value),
         Api::UuidGetvar { uuid, name } => get_variable(draft, uuid, name),

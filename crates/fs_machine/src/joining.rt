@@ -1,10 +1,8 @@
 //! How a command joins two channels.
 
-ghost use Rattle.std.specs.Prelude.{◌≡◌, ◌++◌, if◌then◌else◌, None, Some, IfOk};
+ghost use Rattle.std.specs.Prelude.{◌≡◌, None, Some, IfOk};
 ghost use Rattle.std.specs.Option.{option_copied};
 ghost use Rattle.fs_state.specs.Drafts.{drafted, Brings};
-ghost use Rattle.fs_state.specs.Hangups.{legs_at, lives_at};
-ghost use Rattle.fs_state.specs.Queues.{abort_told_of};
 ghost use Rattle.fs_state.specs.Moves.{with_changed_chan};
 ghost use Rattle.fs_state.specs.Switch.{chan_at};
 ghost use Rattle.fs_chan.specs.Bridging.{at_leisure};
@@ -13,11 +11,10 @@ ghost use Rattle.fs_machine.specs.Joining as spec;
 ghost use Rattle.fs_machine.specs.Texts as texts;
 
 use crate::channels::awaited_at;
-use crate::hangups::hang_up_for;
 use crate::texts::{made_text, says};
 use fs_bridge::BridgeKind;
 use fs_state::{Draft, QueueAction};
-use fs_text::{Cause, Memory, State, Txt};
+use fs_text::{Memory, State, Txt};
 use std::alloc::Global;
 
 /// Joins the live channels of two identifiers, and replies whether it did.
@@ -74,7 +71,8 @@ fn bridge_slots(draft: &mut Draft<'_>, a: u16, b: u16, other: &Txt) -> Result<Op
     match in_the_way(draft, a, b) {
         Some(reply) => says(draft.alloc(), reply),
         None => {
-            leave_all(draft, a, b)?;
+            let both = both_slots(draft.alloc(), a, b)?;
+            depart(draft, &both)?;
             join_both(draft, a, b, other)
         }
     }
@@ -92,8 +90,6 @@ fn in_the_way(draft: &Draft<'_>, a: u16, b: u16) -> Option<&'static [u8]>
         Some(b"-ERR Channel not ready!\n")
     } else if !(is_answered(draft, a) && is_answered(draft, b)) {
         Some(b"-ERR Channel not answered!\n")
-    } else if draft.bridge_at(a).is_some() || draft.bridge_at(b).is_some() {
-        Some(b"-ERR Channel already bridged!\n")
     } else {
         None
     }
@@ -127,61 +123,38 @@ fn is_answered(draft: &Draft<'_>, slot: u16) -> bool
 
 // ---- leaving
 
-// Lets two channels leave what they were in, and tell of the queues in which they waited.
-fn leave_all(draft: &mut Draft<'_>, a: u16, b: u16) -> Result<(), Memory>
-    ensures { Brings result draft.old draft.new
-        (spec.both_queues_left (drafted draft.old) a b (spec.both_left a b (drafted draft.old))) }
+/// Lets the channels in these slots, which differ, leave all that they were in, unless they die of that.
+///
+/// First the legs that they dialed are hung up, with all whom that drags along; then their bridges end, with what comes
+/// of that; and then each of them gives up what it dialed and its queue, and runs and waits for nothing.
+pub(crate) fn depart(draft: &mut Draft<'_>, slots: &[u16]) -> Result<(), Memory>
+    ensures { Brings result draft.old draft.new (spec.after_departures slots.now (drafted draft.old)) }
 {
-    let one = draft.queue_at(a)?;
-    let two = draft.queue_at(b)?;
-    leave_both(draft, a, b)?;
-    if a < b {
-        tell_queue_left(draft, a, one)?;
-        tell_queue_left(draft, b, two)
-    } else {
-        tell_queue_left(draft, b, two)?;
-        tell_queue_left(draft, a, one)
+    draft.leave_others(slots)?;
+    bid_farewells(draft, slots)
+}
+
+// Lets the channels in these slots bid farewell, one after another.
+fn bid_farewells(draft: &mut Draft<'_>, slots: &[u16]) -> Result<(), Memory>
+    ensures { Brings result draft.old draft.new (spec.after_farewells slots.now (drafted draft.old)) }
+{
+    for slot in slots {
+        bid_farewell(draft, *slot)?;
     }
+    Ok(())
 }
 
-/// The channel in a slot has left the queue in which it waited before, and tells so, unless it died of its leaving.
-pub(crate) fn tell_queue_left(
-    draft: &mut Draft<'_>,
-    slot: u16,
-    queue: Option<Txt>,
-) -> Result<(), Memory>
-    ensures { Brings result draft.old draft.new
-        (if lives_at (drafted draft.old) slot then abort_told_of slot queue (drafted draft.old)
-        else drafted draft.old) }
+// Gives up what the channel in a slot dialed and waits for, and tells of the queue in which it waited.
+fn bid_farewell(draft: &mut Draft<'_>, slot: u16) -> Result<(), Memory>
+    ensures { Brings result draft.old draft.new (spec.after_farewell slot (drafted draft.old)) }
 {
-    match queue {
-        Some(name) if draft.lives(slot) => draft.tell_queue(slot, name, QueueAction::Abort),
-        _ => Ok(()),
-    }
+    let queue = draft.queue_at(slot)?;
+    leave(draft, slot)?;
+    tell_queue_left(draft, slot, queue)
 }
 
-// Lets two channels leave what they were in; the legs that they dialed are hung up first.
-fn leave_both(draft: &mut Draft<'_>, a: u16, b: u16) -> Result<(), Memory>
-    ensures { Brings result draft.old draft.new (spec.both_left a b (drafted draft.old)) }
-{
-    let legs = legs_of_both(draft, a, b)?;
-    hang_up_for(draft, &legs, Cause::OriginatorCancel)?;
-    leave(draft, a)?;
-    leave(draft, b)
-}
-
-// The living legs that the channels in two slots dialed.
-fn legs_of_both(draft: &Draft<'_>, a: u16, b: u16) -> Result<Vec<u16>, Memory>
-    ensures { IfOk result (λ legs. legs.items ≡ legs_at (drafted draft.now) a ++ legs_at (drafted draft.now) b) }
-{
-    let mut legs = draft.legs_of(a)?;
-    let others = draft.legs_of(b)?;
-    legs.extend_from_slice(&others)?;
-    Ok(legs)
-}
-
-/// Gives up what the channel in a slot dialed; it runs and waits for nothing.
-pub(crate) fn leave(draft: &mut Draft<'_>, slot: u16) -> Result<(), Memory>
+// Gives up what the channel in a slot dialed; it runs and waits for nothing.
+fn leave(draft: &mut Draft<'_>, slot: u16) -> Result<(), Memory>
     ensures { Brings result draft.old draft.new (spec.after_leaving slot (drafted draft.old)) }
 {
     let awaited = awaited_at(draft, slot);
@@ -198,6 +171,24 @@ fn set_at_leisure(draft: &mut Draft<'_>, slot: u16) -> Result<(), Memory>
     };
     chan.leave_all();
     draft.put_chan(slot, Some(chan))
+}
+
+// The channel in a slot has left a queue, if it waited in one, and tells so, unless it is dead.
+fn tell_queue_left(draft: &mut Draft<'_>, slot: u16, queue: Option<Txt>) -> Result<(), Memory>
+    ensures { Brings result draft.old draft.new (spec.queue_left queue slot (drafted draft.old)) }
+{
+    match queue {
+        Some(name) if draft.lives(slot) => draft.tell_queue(slot, name, QueueAction::Abort),
+        _ => Ok(()),
+    }
+}
+
+/// Two slots, the lesser one first.
+pub(crate) fn both_slots(alloc: Global, a: u16, b: u16) -> Result<Vec<u16>, Memory>
+    ensures { IfOk result (λ slots. slots.items ≡ spec.both_slots a b) }
+{
+    let pair = if a < b { [a, b] } else { [b, a] };
+    Ok(Vec::from_slice(alloc, &pair)?)
 }
 
 // ---- joining

@@ -14,7 +14,8 @@ ghost use Rattle.fs_machine.specs.declared.entry.Entry.{Entry};
 ghost use Rattle.fs_machine.specs.declared.entry.Act.TheVariants.{Arrive};
 ghost use Rattle.fs_machine.specs.declared.reply.Reply.{Reply};
 ghost use Rattle.fs_machine.specs.declared.reply.Reply.TheVariants as reply;
-ghost use Rattle.fs_machine.specs.BridgeEvents.{BridgesAreTold, EndsStandBehind, BridgesAreCounted, events_in};
+ghost use Rattle.fs_machine.specs.BridgeEvents.{BridgesAreTold, EndsStandBehind, EndsStandBetween};
+ghost use Rattle.fs_machine.specs.BridgeEvents.{BridgesAreCounted, events_in};
 ghost use Rattle.fs_machine.specs.Connections.{phase_at};
 ghost use Rattle.fs_machine.specs.Due.{next_due, slot_due};
 ghost use Rattle.fs_machine.specs.EventNames.{AreNamed};
@@ -110,11 +111,13 @@ pub fn events_are_named()
 {}
 
 /// Whatever entries are run, one event tells of each bridge that it begins. No event tells of the end of a bridge that
-/// stands, and one of the end of each other. It stands behind the one that tells of the beginning.
+/// stands, and one of the end of each other. It stands behind the one that tells of the beginning, and in front of the
+/// next that tells of the beginning of a bridge of one of its legs.
 pub fn bridges_are_told()
     ensures told { (config : Configuration) (entries : List Entry)
         → BridgesAreTold (state_after config entries) (events_in config entries) }
     ensures order { (config : Configuration) (entries : List Entry) → EndsStandBehind (events_in config entries) }
+    ensures between { (config : Configuration) (entries : List Entry) → EndsStandBetween (events_in config entries) }
 {}
 
 /// Whatever entries are run, there are as many CHANNEL_BRIDGE events as bridges were joined, and as many
@@ -126,7 +129,7 @@ pub fn bridges_are_counted()
 
 /// In a run none of whose entries is refused, where the configuration keeps its limits, an entry ends only bridges that
 /// stood before it. It leaves both legs of each one that it tells to have ended in their slots, live or hung up, with
-/// no peer and with the cause of that end as their variable `bridge_hangup_cause`.
+/// the cause of that end as their variable `bridge_hangup_cause`, and with no peer, unless it has joined them anew.
 pub fn ends_are_recorded()
     ensures { (config : Configuration) (entries : List Entry) (entry : Entry) → IsWithin config
         → IsRun config (entries ++ entry ∷ [])

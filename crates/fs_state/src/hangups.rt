@@ -43,8 +43,8 @@ impl<'a> Draft<'a> {
         ensures { Brings result self.old self.new
             (spec.after_closure (closure_of (spec.world_of (drafted self.old)) living.now) (drafted self.old)) }
     {
-        let closure = closure_of_hangup(self.alloc(), &*self, living)?;
-        self.close(&closure)
+        let closure = closure_of_hangup(self.alloc(), &*self, living, &[])?;
+        self.close(closure.closure())
     }
 
     /// Those of some slots with causes whose channels are live.
@@ -61,7 +61,7 @@ impl<'a> Draft<'a> {
     }
 
     /// Bridges end, channels are hung up, and others outlive their bridges.
-    fn close(&mut self, closure: &Closure) -> Result<(), Memory>
+    pub(crate) fn close(&mut self, closure: &Closure) -> Result<(), Memory>
         ensures { Brings result self.old self.new (spec.after_closure closure.now (drafted self.old)) }
     {
         self.end_bridges(closure.ended())?;
@@ -161,7 +161,7 @@ impl<'a> Draft<'a> {
     }
 
     /// The channel in a slot, if it lives, does what it does that outlives its bridge.
-    pub(crate) fn outlive(&mut self, slot: u16, after: After) -> Result<(), Memory>
+    fn outlive(&mut self, slot: u16, after: After) -> Result<(), Memory>
         ensures { Brings result self.old self.new (spec.after_survival after slot (drafted self.old)) }
     {
         if self.lives(slot) {

@@ -43,7 +43,7 @@ impl<'a> Draft<'a> {
     }
 
     /// The bridge of the channel in a slot, while that names another leg.
-    pub(crate) fn row_of(&self, slot: u16) -> Option<Row>
+    fn row_of(&self, slot: u16) -> Option<Row>
         ensures { result ≡ spec.row_at (drafted self.now) slot }
     {
         if self.has_peer(slot) {

@@ -18,6 +18,8 @@ use Rattle.fs_cmd.specs.declared.command.Form.{Form}
 use Rattle.fs_cmd.specs.declared.command.Form.TheVariants.{Plain, Json, Xml}
 use Rattle.fs_api.specs.declared.api.Api.{Api}
 use Rattle.fs_api.specs.declared.api.Api.TheVariants as api
+use Rattle.fs_api.specs.declared.side.Side.{Side}
+use Rattle.fs_api.specs.declared.side.Side.TheVariants.{This}
 use Rattle.fs_api.specs.Readings.{api_of, expanded_api_of}
 use Rattle.fs_filter.specs.Asked.{asked_in}
 use Rattle.fs_filter.specs.Subscriptions.{subscribed, unsubscribed, cleared, has_filter}
@@ -70,10 +72,10 @@ use Rattle.fs_machine.specs.Controlling.{dial_at, has_hold, taken_hold, after_di
 use Rattle.fs_machine.specs.Done.{Done}
 use Rattle.fs_machine.specs.Hangups.{all_slots}
 use Rattle.fs_machine.specs.Jobs.{told_if, after_run, after_job_work, job_done_from, job_done}
-use Rattle.fs_machine.specs.Joining.{both_left, both_queues_left, in_the_way, both_in_media, joined_done, bridged_unless, bridge_done_at}
-use Rattle.fs_machine.specs.Joining.{uuid_bridge_done, is_ready, queue_left}
+use Rattle.fs_machine.specs.Joining.{in_the_way, after_departures, both_slots, both_in_media, joined_done, bridged_unless, bridge_done_at}
+use Rattle.fs_machine.specs.Joining.{uuid_bridge_done, is_ready}
 use Rattle.fs_machine.specs.Loading.{after_load}
-use Rattle.fs_machine.specs.Leaving.{after_departure, after_arrival, sent_at, sent_done}
+use Rattle.fs_machine.specs.Leaving.{after_arrival, after_arrivals, peer_at, legs_meant, are_ready, legs_sent, sent_at, sent_done}
 use Rattle.fs_machine.specs.Originations.{after_winning, group_made}
 use Rattle.fs_machine.specs.Owing.{after_owing, after_job_begin, background_begun, after_job_end}
 use Rattle.fs_machine.specs.Runs.{run_from, IsRunFrom}
@@ -81,9 +83,7 @@ use Rattle.fs_machine.specs.Shutdown.{after_shutdown}
 use Rattle.fs_machine.specs.Step.{refused_act, refusal_of, after_close, acted, step}
 use Rattle.fs_machine.specs.Work.{after_work}
 use Rattle.fs_machine.specs.Texts.{ok, made_text, failed_text}
-use Rattle.fs_machine.proofs.AbortLemmas.{queue_left_kept, queues_left_kept}
 use Rattle.fs_machine.proofs.FrontLemmas.{conn_unread}
-use Rattle.fs_machine.proofs.JoinLemmas.{apart_now}
 use Rattle.fs_machine.proofs.Kept.{Fact, KeptByCalls, raced}
 use Rattle.fs_machine.proofs.RestLemmas.{Rest, rest_of, whichever, moved_rest, hung_rest, joined_rest, calls_by_rest, won_rest, group_made_rest}
 use Rattle.fs_machine.proofs.RestLemmas.{regrouped_rest, worked_rest}
@@ -170,11 +170,7 @@ bridged_stays uuid other s = by (slot_named uuid s) (slot_named other s)
     way : (a b : ℕ) (found : Option Text) → in_the_way a b s ≡ found → (bridged_unless found a b other s).state.stopping ≡ s.stopping
     way a b (Some answer) is = refl
     way a b None is =
-        let apart = apart_now a b s is in
-        let u : Switch = both_left a b s in
-        let left : u.stopping ≡ s.stopping = (calls_stay s).leaves a b {s = s} apart.0 apart.1 refl refl in
-        joined_stays a b other s (both_queues_left s a b u)
-        (queues_left_kept (λ (t : Switch). t.stopping ≡ s.stopping) (λ name slot t k. k) s a b u left)
+        joined_stays a b other s (after_departures (both_slots a b) s) ((calls_stay s).departs (both_slots a b) {s = s} refl refl)
 
     by : (first second : Option ℕ) → (bridge_done_at first second other s).state.stopping ≡ s.stopping
     by (Some a) (Some b) = way a b (in_the_way a b s) refl
@@ -182,21 +178,27 @@ bridged_stays uuid other s = by (slot_named uuid s) (slot_named other s)
     by None (Some b) = refl
     by None None = refl
 
-sent_stays : (change : Chan → Chan) (uuid : Text) (s : Switch) → (sent_done change uuid s).state.stopping ≡ s.stopping
+sent_stays : (change : Chan → Chan) (side : Side) (uuid : Text) (s : Switch) → (sent_done change side uuid s).state.stopping ≡ s.stopping
 unfolding sent_done
-sent_stays change uuid s = by (slot_named uuid s)
+sent_stays change side uuid s = by (slot_named uuid s)
   where
     arrived : (slot : ℕ) (t : Switch) → t.stopping ≡ s.stopping → (after_arrival change slot t).stopping ≡ s.stopping
     arrived slot t h =
         whichever (λ (u : Switch). u.stopping ≡ s.stopping) (lives_at t slot) _ _ (moved_stays change slot t ∙ h) h
 
-    by : (found : Option ℕ) → (sent_at change found s).state.stopping ≡ s.stopping
+    all_arrived : (slots : List ℕ) (t : Switch) → t.stopping ≡ s.stopping → (after_arrivals change slots t).stopping ≡ s.stopping
+    all_arrived [] t h = h
+    all_arrived (slot ∷ slots) t h = all_arrived slots (after_arrival change slot t) (arrived slot t h)
+
+    legs : (found : Option (List ℕ)) → (legs_sent change found s).state.stopping ≡ s.stopping
+    legs None = refl
+    legs (Some slots) =
+        either_stays s (are_ready s slots) _ _
+        (all_arrived slots (after_departures slots s) ((calls_stay s).departs slots {s = s} refl refl)) refl
+
+    by : (found : Option ℕ) → (sent_at change side found s).state.stopping ≡ s.stopping
     by None = refl
-    by (Some slot) =
-        let t : Switch = after_departure slot s in
-        let left : t.stopping ≡ s.stopping = (calls_stay s).departs slot {s = s} refl refl in
-        either_stays s (is_ready (chan_at s slot)) _ _
-        (arrived slot (queue_left s slot t) (queue_left_kept (λ (u : Switch). u.stopping ≡ s.stopping) (λ name at u k. k) s slot t left)) refl
+    by (Some slot) = either_stays s (is_ready (chan_at s slot)) _ _ (legs (legs_meant side slot (peer_at s slot))) refl
 
 module _ (by : _) (begins : (what : JobWork) (t : Switch) → (after_job_begin by what t).stopping ≡ t.stopping) where
   originated_stays : (groups : List (List LegPlan)) (winner : Winner) (caller : Caller) (timeout : Option ℕ) (s : Switch) →
@@ -224,8 +226,8 @@ module _ (by : _) (begins : (what : JobWork) (t : Switch) → (after_job_begin b
   plainly_stays (api.UuidExists uuid) s = inl refl
   plainly_stays (api.UuidKill uuid cause) s = inl (killed_stays cause (slot_named uuid s) s)
   plainly_stays (api.UuidBridge uuid other) s = inl (bridged_stays uuid other s)
-  plainly_stays (api.UuidPark uuid) s = inl (sent_stays parked uuid s)
-  plainly_stays (api.UuidTransfer uuid to) s = inl (sent_stays (transferred to) uuid s)
+  plainly_stays (api.UuidPark uuid) s = inl (sent_stays parked This uuid s)
+  plainly_stays (api.UuidTransfer uuid side to) s = inl (sent_stays (transferred to) side uuid s)
   plainly_stays (api.UuidSetvar uuid name value) s = inl (set_stays name value (slot_named uuid s) s)
   plainly_stays (api.UuidGetvar uuid name) s = inl refl
   plainly_stays (api.UuidDump uuid) s = inl refl

@@ -2,7 +2,7 @@ use Rattle.std.proofs.Common.{◌≡◌, rules, refl}
 use Rattle.fs_bridge.specs.Worlds.{World}
 use Rattle.fs_bridge.specs.Leaving.{ends_with, leavers_of}
 use Rattle.fs_bridge.proofs.LeavingSteps.{ends_are, leaving_is}
-use Rattle.fs_bridge.proofs.leaving.closure_of_leaving.Goals as goal
+use Rattle.fs_bridge.proofs.leaving.closure_of_hangup.Goals as goal
 
 pub returns : goal.returns
 returns g c =

@@ -38,7 +38,7 @@ class Command:
 
 COMMANDS = {}
 
-# what the program does not know yet, or in another way
+# what the program does not know yet
 COMING = {}
 
 
@@ -53,9 +53,9 @@ def command(name, usage="", takes_text=False, commands=COMMANDS):
 
 
 def known(switch, name):
-    """The command of this name. What is still to come is known to some switches alone, in place of what is there."""
+    """The command of this name. What is still to come is known to some switches alone."""
     coming = COMING if switch.coming else {}
-    return coming.get(name) or COMMANDS.get(name)
+    return COMMANDS.get(name) or coming.get(name)
 
 
 def answer(switch, text):
@@ -248,20 +248,11 @@ def uuid_park(switch, words):
     return "+OK\n"
 
 
-@command("uuid_transfer", "<uuid> <exten> [dialplan] [context]")
-def uuid_transfer(switch, words):
-    identifier, *route = need(words, 2)[:4]
-    if not may_be_routed(route):
-        raise WrongUsage
-    transfer(switch, [find_ready(switch, identifier)], route)
-    return "+OK\n"
-
-
 SIDES = ("-both", "-bleg")
 
 
-@command("uuid_transfer", "<uuid> [-both|-bleg] <exten> [dialplan] [context]", commands=COMING)
-def uuid_transfer_of_sides(switch, words):
+@command("uuid_transfer", "<uuid> [-both|-bleg] <exten> [dialplan] [context]")
+def uuid_transfer(switch, words):
     """`-both` routes the channel and its peer, `-bleg` its peer alone. Behind one of them stands any extension."""
     identifier, *words = need(words, 2)
     side = words.pop(0) if words[0] in SIDES else None
@@ -278,10 +269,7 @@ def uuid_transfer_of_sides(switch, words):
 
 @command("uuid_bridge", "<uuid> <other_uuid>")
 def uuid_bridge(switch, words):
-    """Both leave what they were in. Where one died of that, the other one stays as it is then.
-
-    Bridges that they stand in are something to leave for what is still to come alone.
-    """
+    """Both leave what they were in, bridges too. Where one died of that, the other one stays as it is then."""
     caller, other = bridgeable(switch, *need(words, 2)[:2])
     leave(switch, [caller, other])
     if not caller.live() or not other.live():
@@ -301,8 +289,6 @@ def bridgeable(switch, *identifiers):
         raise Refused("Channel not ready!")
     if not all(channel.answered for channel in both):
         raise Refused("Channel not answered!")
-    if any(channel.bridge for channel in both) and not switch.coming:
-        raise Refused("Channel already bridged!")
     return both
 
 

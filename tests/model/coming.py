@@ -3,9 +3,8 @@
 from everything import Everything
 from held import Held
 from hourly import Hourly
-from joined import Joined
 from json_events import Json
 from scheduled import Scheduled
 
-ALL = (Joined, Hourly, Scheduled, Json, Held, Everything)
+ALL = (Hourly, Scheduled, Json, Held, Everything)
 COMING_KINDS = {kind.__name__.lower(): kind for kind in ALL}

@@ -3,16 +3,13 @@
 import kinds
 from held import Held, Limiting
 from hourly import BASES, Hourly
-from joined import Joined
 from scheduled import AGAIN, Scheduled
-from sockets import Sockets
-from waiting import Queues
 
 
 class Everything(kinds.Everything, Limiting):
     """Documents of several kinds in one, all commands, and longer plays, and in them what is still to come."""
 
-    FURTHER_PARTS = (Queues, Sockets, Joined, Hourly, Scheduled, Held)
+    FURTHER_PARTS = (*kinds.Everything.FURTHER_PARTS, Hourly, Scheduled, Held)
     TOGETHER = (
         "event json ALL", "event plain ALL", "api reloadxml", "bgapi reloadxml", "api sched_api +1 g reloadxml",
         "api msleep 3600000", "api sched_api +1 g hupall", "api limit_usage hash r a",

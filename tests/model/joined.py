@@ -1,8 +1,8 @@
 """Plays of bridges whose legs are joined again, sent elsewhere with each other, or left alone."""
 
-from channels import Wait
 from dialplan import Action, Document, Extension
 from random_plays import ANSWER, LONGEST_SLEEP, PARK, Kind, any_channel, brackets, bridged
+from waiting import dialing, queued
 
 
 def answered(channel):
@@ -12,14 +12,6 @@ def answered(channel):
 def beside_bridge(channel):
     """Its partner is bridged, so that it may be dragged along by what happens there."""
     return channel.partner.bridge is not None and answered(channel)
-
-
-def dialing(channel):
-    return channel.wait is Wait.LEGS and channel.answered
-
-
-def queued(channel):
-    return channel.wait is Wait.QUEUE
 
 
 class Joined(Kind):

@@ -4,6 +4,7 @@ from dataclasses import replace
 
 from background import Crowds, FurtherBlocks, FurtherStreams, Jobs
 from dialplan import Document
+from joined import Joined
 from layers import Layers
 from limits import Bytes, Limits, Room
 from messages import Messages, Variables
@@ -51,9 +52,9 @@ class Mixture(Layers):
 
 
 class Everything(Mixture, Dialing):
-    """Documents of several kinds in one, all commands, and longer plays, queues and sockets among them."""
+    """Documents of several kinds in one, all commands, and longer plays, queues, sockets and joined legs among them."""
 
-    FURTHER_PARTS = (Queues, Sockets)
+    FURTHER_PARTS = (Queues, Sockets, Joined)
 
     def __init__(self, seed):
         super().__init__(seed)
@@ -80,6 +81,6 @@ class Everything(Mixture, Dialing):
 
 ALL = (
     Words, Layers, Rings, Times, Bytes, Limits, Spelling, Room, Mixture, Messages, Variables, Jobs, Crowds,
-    Shutdowns, Queues, Sockets, Everything, Blocks, FurtherBlocks, Streams, FurtherStreams,
+    Shutdowns, Queues, Sockets, Joined, Everything, Blocks, FurtherBlocks, Streams, FurtherStreams,
 )
 KINDS = {kind.__name__.lower(): kind for kind in ALL}

@@ -89,7 +89,7 @@ def brackets(pairs, opening="{", closing="}", separator=","):
 
 
 def answered_alone(channel):
-    """A channel that a command can join to another one."""
+    """A channel in no bridge that a command can join to another one."""
     return channel.answered and not channel.bridge and channel.leg is None
 
 

@@ -274,9 +274,11 @@ class Controlled(Dialing):
         """Commands that move its own channel or others, or are owed an answer."""
         own = connection.own_channel
         other = self.channel(entries, held, parked, any_channel)
+        leg = self.one_of(own, self.channel(entries, bridged))
         return self.weighed(
             (3, lambda: self.command(entries)),
-            (1, lambda: f"api uuid_transfer {own} {self.one_of('held', 'own', 'stays', self.number)}"),
+            (1, lambda: f"api uuid_transfer {own} {self.goal()}"),
+            (1, lambda: f"api uuid_transfer {leg} {self.one_of('-both', '-bleg')} {self.goal()}"),
             (1, f"api uuid_park {own}"),
             (1, lambda: f"api uuid_bridge {self.one_of(f'{own} {other}', f'{other} {own}')}"),
             (1, lambda: f"api uuid_kill {self.one_of(own, other)} {self.cause()}"),
@@ -284,6 +286,9 @@ class Controlled(Dialing):
             (1, f"api uuid_dump {own}"),
             (2, lambda: "api msleep " + self.one_of("0", "0", "1000")),
         )
+
+    def goal(self):
+        return self.one_of("held", "own", "stays", self.number)
 
     def own_message(self, connection):
         """Mostly without an identifier, and of what its channel can do."""

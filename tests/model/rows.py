@@ -361,7 +361,7 @@ def usages():
         "uuid_getvar": "<uuid> <name>",
         "uuid_dump": "<uuid>",
         "uuid_park": "<uuid>",
-        "uuid_transfer": "<uuid> <exten> [dialplan] [context]",
+        "uuid_transfer": "<uuid> [-both|-bleg] <exten> [dialplan] [context]",
         "uuid_bridge": "<uuid> <other_uuid>",
         "originate": "<call url> <exten>|&<app>(<args>) [dialplan] [context] [cid_name] [cid_num] [timeout]",
         "fsctl": "shutdown",
@@ -743,7 +743,7 @@ def left_by_transfer_and_park():
 
 @row("a caller leaves its queue as it is joined to another channel")
 def left_by_uuid_bridge():
-    third, fourth = identifier(3), identifier(4)
+    fourth = identifier(4)
     for near, far, caller in ((fourth, SECOND, 4), (SECOND, fourth, 2)):
         said = queued(call("q"), call("ans"), WATCHED, f"api uuid_bridge {near} {far}")
         yield brief(said), f"abort 2, BRIDGE {caller}, STATE 2, UNPARK 4, STATE 4"
@@ -755,9 +755,6 @@ def left_by_uuid_bridge():
         "HANGUP 5, STATE 5, HANGUP 6, STATE 6, abort 2, BRIDGE 4, STATE 2, STATE 4, "
         "STATE 5, STATE 5, STATE 6, STATE 6"
     )
-    for near, far in ((fourth, third), (third, SECOND)):
-        said = queued(call("q"), call("w"), f"api uuid_bridge {near} {far}")
-        yield said.bodies()[-1], "-ERR Channel already bridged!\n"
 
 
 @row("a taker that waits leaves, and nothing is told of a queue")
@@ -917,7 +914,7 @@ def bridge_document():
 
 
 def bridging(*lines):
-    return coming(*lines, document=bridge_document())
+    return play(bridge_document(), *lines)
 
 
 def uuid_bridge(caller, other):
@@ -948,25 +945,26 @@ def routed(slot):
     return f"STATE {slot}, EXECUTE {slot}, EXECUTE_COMPLETE {slot}, EXECUTE {slot}, PARK {slot}, STATE {slot}"
 
 
-@row("legs of two bridges are joined, and the others are hung up or park", COMING_ROWS)
+@row("legs of two bridges are joined, and the others are hung up or park")
 def rejoined():
     begin = [f"api originate {{origination_uuid={name}}}loopback/ans &park()" for name in "ABCD"]
     begin += ["api uuid_bridge A B", "api uuid_bridge C D", "event plain CHANNEL_UNBRIDGE"]
     joins = ("api uuid_bridge A C", "api uuid_exists B", "api uuid_exists D", "api uuid_getvar A signal_bond")
-    said = coming(*begin, *joins)
+    said = play(usual_document(), *begin, *joins)
     told = said.told()[9:]
     yield (told[0], told[3:]), ("+OK C\n", ["false", "false", "C"])
     yield [re.findall("(?:Bridge-.*|Hangup-Cause): (.*)", event) for event in told[1:3]], [
         ["A", "B", "1", "NORMAL_CLEARING"],
         ["C", "D", "2", "NORMAL_CLEARING"],
     ]
-    yield coming(*begin, "api uuid_setvar B park_after_bridge true", *joins).bodies()[-3:], ["true", "false", "C"]
+    said = play(usual_document(), *begin, "api uuid_setvar B park_after_bridge true", *joins)
+    yield said.bodies()[-3:], ["true", "false", "C"]
 
 
-@row("the two legs of a bridge are joined again", COMING_ROWS)
+@row("the two legs of a bridge are joined again")
 def joined_twice():
     begin = [f"api originate {{origination_uuid={name}}}loopback/ans &park()" for name in "AB"]
-    said = coming(*begin, "event plain CHANNEL_UNBRIDGE", *["api uuid_bridge A B"] * 2)
+    said = play(usual_document(), *begin, "event plain CHANNEL_UNBRIDGE", *["api uuid_bridge A B"] * 2)
     yield said.bodies()[2:], ["+OK B\n"] * 2
     yield re.findall("Bridge-Number: (.*)", said.result.output), ["1"]
     for caller, other, change in ((2, 3, "STATE 2"), (3, 2, "STATE 2"), (5, 7, ""), (7, 5, "")):
@@ -995,7 +993,7 @@ PARTS_OF_LEAVING = {
 }
 
 
-@row("legs of any two bridges are joined", COMING_ROWS)
+@row("legs of any two bridges are joined")
 def any_two_legs():
     bridges = ((2, 3), (5, 7), (10, 12))
     for first, second in ((0, 1), (0, 2), (1, 2)):
@@ -1009,7 +1007,7 @@ def any_two_legs():
                     yield said.bodies()[-1], f"+OK {identifier(other)}\n"
 
 
-@row("legs of two bridges of one kind are joined", COMING_ROWS)
+@row("legs of two bridges of one kind are joined")
 def two_of_a_kind():
     dialed = (call("calls"), call("calls"), WATCHED)
     yield brief(bridging(*dialed, uuid_bridge(6, 2))), (
@@ -1034,7 +1032,7 @@ def two_of_a_kind():
     )
 
 
-@row("what legs do that are left behind, by their variables", COMING_ROWS)
+@row("what legs do that are left behind, by their variables")
 def left_behind():
     parks, hangs_up = "park_after_bridge", "hangup_after_bridge"
     with_partner = "HANGUP {0}, UNPARK {0}, STATE {0}, HANGUP {1}, STATE {1}"
@@ -1059,7 +1057,7 @@ def left_behind():
         yield said.session.hangups, {"NORMAL_CLEARING": 2} if later.startswith("STATE") else {}
 
 
-@row("some are hung up and others park behind two bridges, and all hangups come first", COMING_ROWS)
+@row("some are hung up and others park behind two bridges, and all hangups come first")
 def hangups_first():
     parks = f"api uuid_setvar {identifier(3)} park_after_bridge true"
     causes = [f"api uuid_getvar {identifier(slot)} bridge_hangup_cause" for slot in (2, 3, 5)]
@@ -1068,7 +1066,7 @@ def hangups_first():
     yield said.bodies()[-3:], ["NORMAL_CLEARING"] * 3
 
 
-@row("a leg dies of what its own leaving does", COMING_ROWS)
+@row("a leg dies of what its own leaving does")
 def dies_of_leaving():
     partners = (call("ans"), call("ans"), uuid_bridge(1, 2), WATCHED)
     both = "HANGUP 1, STATE 1, HANGUP 2, STATE 2"
@@ -1083,7 +1081,7 @@ def dies_of_leaving():
     yield brief(said), f"UNBRIDGE 1, STATE 1, STATE 2, {routed(1)}, {routed(2)}"
 
 
-@row("the partner of a leg that is left behind dies as it is joined, and the other one stays", COMING_ROWS)
+@row("the partner of a leg that is left behind dies as it is joined, and the other one stays")
 def partner_dies():
     begin = (call("ans"), call("ans"), uuid_bridge(1, 3), WATCHED)
     for caller, other in ((1, 4), (4, 1)):
@@ -1096,7 +1094,7 @@ def partner_dies():
     yield brief(said).endswith(f"STATE 1, {routed(1)}"), True
 
 
-@row("hangups run through bridges that still stand, and not through those that were left", COMING_ROWS)
+@row("hangups run through bridges that still stand, and not through those that were left")
 def through_bridges():
     ring = (call("ans"), call("ans"), uuid_bridge(1, 3), uuid_bridge(4, 2), WATCHED)
     all_four = in_order(*(f"HANGUP {slot}, STATE {slot}" for slot in (1, 2, 3, 4)))
@@ -1117,11 +1115,11 @@ def through_bridges():
     yield brief(said), f"{through}, PARK 5, STATE 5, BRIDGE 1, UNPARK 6, STATE 6, {gone(3, 4)}"
 
 
-@row("both legs of a bridge are sent elsewhere", COMING_ROWS)
+@row("both legs of a bridge are sent elsewhere")
 def both_transferred():
     begin = [f"api originate {{origination_uuid={name}}}loopback/ans &park()" for name in "AB"]
     moves = ["api uuid_transfer A -both ans", "api uuid_exists A", "api uuid_exists B"]
-    said = coming(*begin, "api uuid_bridge A B", "event plain CHANNEL_UNBRIDGE", *moves, moves[0])
+    said = play(usual_document(), *begin, "api uuid_bridge A B", "event plain CHANNEL_UNBRIDGE", *moves, moves[0])
     yield said.bodies()[3:], ["+OK\n", "true", "true", "-ERR Channel not bridged!\n"]
     yield len(events(said)), 1
     for legs in ((2, 3), (5, 7), (10, 12)):
@@ -1133,7 +1131,7 @@ def both_transferred():
     yield said.session.hangups, {"NO_ROUTE_DESTINATION": 4}
 
 
-@row("the peer of a leg is sent elsewhere", COMING_ROWS)
+@row("the peer of a leg is sent elsewhere")
 def peer_transferred():
     expected = {
         2: f"UNBRIDGE 2, EXECUTE_COMPLETE 2, STATE 3, EXECUTE 2, PARK 2, STATE 2, {routed(3)}",
@@ -1154,7 +1152,7 @@ def peer_transferred():
     )
 
 
-@row("the peer of a leg is its partner, whom a queue brought to it", COMING_ROWS)
+@row("the peer of a leg is its partner, whom a queue brought to it")
 def peer_is_partner():
     begin = ("api originate loopback/q '&fifo(f out nowait)'", WATCHED)
     ended = "UNBRIDGE 2, EXECUTE_COMPLETE 1, STATE 2, HANGUP 1, STATE 1, HANGUP 2, STATE 2"
@@ -1168,15 +1166,14 @@ def peer_is_partner():
 RINGS = "bgapi originate loopback/never &park()\nJob-UUID: rings"
 
 
-@row("which words of a transfer are known, and what is missed first", COMING_ROWS)
+@row("which words of a transfer are known, and what is missed first")
 def words_of_transfer():
     usage = "-USAGE: <uuid> [-both|-bleg] <exten> [dialplan] [context]\n"
-    yield COMING["uuid_transfer"].usage, usage.removeprefix("-USAGE: ").strip()
     long = "y" * 257
     for words in ("", "x", "x -both", "x -bleg ", "x -Both ans", "x - ans", "x -aleg ans", f"x -both {long}",
                   f"x -bleg ans {long}", f"x -both ans XML {long}", "-both ans XML"):
         expected = NO_CHANNEL if words == "-both ans XML" else usage
-        yield (words, *coming(f"api uuid_transfer {words}").bodies()), (words, expected)
+        yield (words, *answers(f"uuid_transfer {words}")), (words, expected)
     said = bridging(RINGS, *(uuid_transfer(1, words) for words in ("-both ans", "-bleg ans", "ans")))
     yield said.bodies(), ["-ERR Channel not ready!\n"] * 3
     unbridged = "-ERR Channel not bridged!\n"
@@ -1187,7 +1184,7 @@ def words_of_transfer():
     yield said.session.hangups, {"DESTINATION_OUT_OF_ORDER": 2}
 
 
-@row("what is missed first of two that are to be joined again", COMING_ROWS)
+@row("what is missed first of two that are to be joined again")
 def refusals_of_joining():
     pairs = ((2, 2), (2, 99), (2, 13), (14, 2))
     said = bridging(*THREE_BRIDGES, RINGS, *(uuid_bridge(*pair) for pair in pairs))
@@ -1197,8 +1194,7 @@ def refusals_of_joining():
     yield said.session.events_told["CHANNEL_UNBRIDGE"], 0
 
 
-@row("legs that are left die first, of all in the order of slots, then bridges end, and queues are left last",
-     COMING_ROWS)
+@row("legs that are left die first, of all in the order of slots, then bridges end, and queues are left last")
 def order_of_leaving():
     cancelled = "HANGUP 3, STATE 3, HANGUP 4, STATE 4, HANGUP 7, STATE 7, HANGUP 8, STATE 8"
     for caller, other in ((6, 2), (2, 6)):
@@ -1222,7 +1218,7 @@ def order_of_leaving():
     )
 
 
-@row("partners that dial, and partners that wait in a queue, die with a leg that is left behind", COMING_ROWS)
+@row("partners that dial, and partners that wait in a queue, die with a leg that is left behind")
 def waiting_partners():
     dialing = (call("dials"), call("ans"), uuid_bridge(1, 5), WATCHED)
     legs, pair = "HANGUP 3, STATE 3, HANGUP 4, STATE 4", "HANGUP 1, STATE 1, HANGUP 2, STATE 2"
@@ -1242,7 +1238,7 @@ def waiting_partners():
     yield brief(said), "UNBRIDGE 3, PARK 1, STATE 1, abort 2, BRIDGE 3, STATE 2"
 
 
-@row("the end of a bridge tells its caller as the entry leaves it", COMING_ROWS)
+@row("the end of a bridge tells its caller as the entry leaves it")
 def texts_of_ends():
     named_by = "(Channel-State|Unique-ID|Other-Leg-Unique-ID|Bridge-.-Unique-ID|Bridge-Number|Hangup-Cause): (.*)"
     watched = "event plain CHANNEL_UNBRIDGE CHANNEL_BRIDGE"
@@ -1258,7 +1254,7 @@ def texts_of_ends():
     ]
 
 
-@row("variables of legs that are joined again, and of those that are left", COMING_ROWS)
+@row("variables of legs that are joined again, and of those that are left")
 def variables_of_rejoined():
     dumps = [f"api uuid_dump {identifier(leg)}" for leg in (2, 5)]
     said = bridging(*THREE_BRIDGES, "event plain CHANNEL_HANGUP_COMPLETE", uuid_bridge(2, 5), *dumps)
@@ -1274,21 +1270,12 @@ def variables_of_rejoined():
     ]
 
 
-@row("messages are kept by legs that are joined again or sent elsewhere", COMING_ROWS)
+@row("messages are kept by legs that are joined again or sent elsewhere")
 def messages_kept():
     said = bridging(*THREE_BRIDGES, execute(2, "eval"), WATCHED, uuid_bridge(2, 5), uuid_transfer(2, "-both ans"))
     told = brief(said)
     yield told.endswith(in_order("UNBRIDGE 2, STATE 2, STATE 5, STATE 2, EXECUTE 2, EXECUTE_COMPLETE 2",
                                  routed(2).removeprefix("STATE 2, "), routed(5))), True
-
-
-@row("the model of today refuses legs that are bridged, and knows no sides", COMING_ROWS)
-def no_rejoining_yet():
-    said = queued(call("ans"), call("ans"), uuid_bridge(1, 3), uuid_bridge(3, 1), uuid_transfer(1, "-both ans"))
-    yield said.bodies()[-2:], [
-        "-ERR Channel already bridged!\n",
-        "-USAGE: <uuid> <exten> [dialplan] [context]\n",
-    ]
 
 
 def timed_document(times, **settings):

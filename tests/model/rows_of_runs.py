@@ -10,7 +10,7 @@ from frames import GOODBYE
 from steps import answers
 from tables import identifier
 
-LEG, FAR_END = identifier(1), identifier(2)
+LEG, FAR_END, DIALED = map(identifier, (1, 2, 3))
 
 NOTICE = GOODBYE.split("\n")[:1]
 SOCKET = Action("socket", "127.0.0.1:9999 async full")
@@ -180,6 +180,23 @@ def losing():
     yield told(USUAL, *steps), [both_joined, "+OK", f"+OK {FAR_END}", *NOTICE]
 
 
+def losing_by_sides():
+    """Who is moved beside its peer, or in its place, loses its controller. Who is left by its peer keeps it."""
+    dialed = "work 2 3 3 4 4 4 4 2"
+    steps = ("dialed 2", message("bridge", "loopback/ans"), dialed, "hear 2 1")
+    ended, moved = "at 0: CHANNEL_UNBRIDGE(1) ", " CHANNEL_STATE"
+    both, cleared = "CHANNEL_STATE CHANNEL_STATE", hung_up("NORMAL_CLEARING")
+    sides = {
+        f"{FAR_END} -both": (ended + both, *NOTICE),
+        f"{DIALED} -both": (ended + both, *NOTICE),
+        f"{DIALED} -bleg": (f"{ended}{cleared} {cleared}{moved}", *NOTICE),
+        f"{FAR_END} -bleg": (f"{ended}CHANNEL_EXECUTE_COMPLETE{moved}", "Empty"),
+    }
+    for words, expected in sides.items():
+        said = told(USUAL, *steps, f"say 1 api uuid_transfer {words} ans", "hear 2 1")
+        yield (words, *said[-2:]), (words, *expected)
+
+
 def owed():
     """An answer that is still owed as the channel is lost comes behind the notice."""
     killed = f"say 1 api uuid_kill {FAR_END}"
@@ -208,6 +225,7 @@ ROWS = {
     "a channel that is held asks for no other controller": not_nested,
     "dials at the limit of connections": limit,
     "a controller loses its channel": losing,
+    "a controller loses its channel by a side of a bridge": losing_by_sides,
     "an answer that a controller is owed": owed,
     "a controller subscribes for itself": own_subscription,
 }

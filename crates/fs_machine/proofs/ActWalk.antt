@@ -47,7 +47,6 @@ use Rattle.fs_text.specs.declared.states.State.TheVariants.{CsExchangeMedia}
 use Rattle.fs_chan.specs.Changes.{in_state, is_live, parked, transferred, takes_message, with_message}
 use Rattle.fs_chan.specs.Exports.{with_set}
 use Rattle.fs_chan.specs.declared.chan.Chan.{Chan}
-use Rattle.fs_chan.specs.declared.wait.Wait.TheVariants.{Ready}
 use Rattle.fs_chan.specs.Controlling.{dial_of}
 use Rattle.fs_state.specs.Switch.{Switch, chan_at, with_chan, with_event, job_of, without_job, slot_named, is_full_of_jobs}
 use Rattle.fs_state.specs.Switch.{is_full_of_conns, passes_limit}

@@ -47,7 +47,7 @@ use Rattle.fs_orig.specs.Verdicts.{next_group}
 use Rattle.fs_seats.proofs.HeldLemmas.{free_seat}
 use Rattle.fs_plan.specs.declared.hunt.Hunt.{Hunt}
 use Rattle.fs_plan.specs.Hunting.{hunted}
-use Rattle.fs_state.specs.Switch.{Switch, chan_at, bridge_at, free_slot, orig_of, without_orig, with_event}
+use Rattle.fs_state.specs.Switch.{Switch, chan_at, free_slot, orig_of, without_orig, with_event}
 use Rattle.fs_state.specs.Moves.{plain_event, application_event, running_at, report_event, after_move, with_changed_chan, with_running}
 use Rattle.fs_state.specs.Moves.{run_on, after_completion, its_leg_changed, after_answer_from, after_one_answer, partner_at, for_slot}
 use Rattle.fs_state.specs.Moves.{after_answer, after_report, after_destroy}

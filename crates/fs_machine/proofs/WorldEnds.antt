@@ -6,7 +6,6 @@ use Rattle.fs_bridge.specs.declared.row.Row.{Row}
 use Rattle.fs_bridge.specs.Bridges.{has_leg, has_number, part_of, unbridged}
 use Rattle.fs_bridge.specs.Hangups.{IsOneOf}
 use Rattle.fs_bridge.specs.Leaving.{is_left, parted_world}
-use Rattle.fs_bridge.specs.Worlds.{World}
 use Rattle.fs_bridge.proofs.PartLemmas.{leg_left, unless_from}
 use Rattle.fs_chan.specs.declared.chan.Chan.{Chan}
 use Rattle.fs_chan.specs.Bridging.{unbridged as let_go}

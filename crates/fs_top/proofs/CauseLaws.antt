@@ -32,7 +32,7 @@ use Rattle.fs_top.specs.Runs.{fails_for_memory, IsPlayed, Gives, LoadedAs, IsBui
 use Rattle.fs_top.specs.Runs.{Runs, HasConfig, HasFault, HasRefusal, CountRose, FillsJournal, MeetsBadBlock}
 use Rattle.fs_top.specs.Runs.{RunsAway, RefusesPattern, Library, view_in, name_of, Reloads, reloader_read, reloader_file}
 use Rattle.fs_top.specs.declared.outcome.Outcome.{Outcome}
-use Rattle.fs_top.proofs.RunLaws.{tells}
+use Rattle.fs_top.proofs.AnswerLaws.{tells}
 
 -- the end of a play of this status
 status_ended : (c : Configuration) (notes : List LoadNote) (input : List ℕ) (read_failed : Bool) (status : ℕ) →

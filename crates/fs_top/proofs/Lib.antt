@@ -1,3 +1,4 @@
+mod AnswerLaws
 mod CauseLaws
 mod CompleteLaws
 mod CountLaws

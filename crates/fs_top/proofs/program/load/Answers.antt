@@ -1,4 +1,4 @@
-use Rattle.fs_top.proofs.RunLaws.{loads_none}
+use Rattle.fs_top.proofs.AnswerLaws.{loads_none}
 use Rattle.fs_top.proofs.program.load.Goals as goal
 
 pub returns-in-Ok-clause-does : goal.returns-in-Ok-clause-does

@@ -4,7 +4,7 @@ use Rattle.fs_doc.specs.Reading.{Configuration}
 use Rattle.fs_state.specs.Switch.{empty}
 use Rattle.fs_machine.specs.Runs.{run_from}
 use Rattle.fs_conn.specs.Play.{noted}
-use Rattle.fs_top.proofs.RunLaws.{loads_counted, loads_ended, loads_none}
+use Rattle.fs_top.proofs.AnswerLaws.{loads_counted, loads_ended, loads_none}
 use Rattle.fs_top.proofs.program.load_on.Goals as goal
 
 pub returns-in-Exit-clause-does : goal.returns-in-Exit-clause-does

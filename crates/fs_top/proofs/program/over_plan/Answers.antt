@@ -1,6 +1,7 @@
 use Rattle.std.proofs.Common.{Some, refl, []}
 use Rattle.fs_top.specs.Told.{Check, Hunt, told_asked}
-use Rattle.fs_top.proofs.RunLaws.{answers_quiet, plan_alone, plan_played, plan_loaded, text_anywhere, used_rests}
+use Rattle.fs_top.proofs.AnswerLaws.{answers_quiet, text_anywhere, used_rests}
+use Rattle.fs_top.proofs.RunLaws.{plan_alone, plan_played, plan_loaded}
 use Rattle.fs_top.proofs.program.over_plan.Goals as goal
 
 pub returns-in-Check : goal.returns-in-Check

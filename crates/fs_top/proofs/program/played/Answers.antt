@@ -1,5 +1,5 @@
 use Rattle.fs_conn.specs.Play.{noted}
-use Rattle.fs_top.proofs.RunLaws.{plays_anew, plays_nothing}
+use Rattle.fs_top.proofs.AnswerLaws.{plays_anew, plays_nothing}
 use Rattle.fs_top.proofs.program.played.Goals as goal
 
 pub returns-in-Ok : goal.returns-in-Ok

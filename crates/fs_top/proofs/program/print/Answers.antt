@@ -1,4 +1,4 @@
-use Rattle.fs_top.proofs.RunLaws.{print_all, print_failed}
+use Rattle.fs_top.proofs.AnswerLaws.{print_all, print_failed}
 use Rattle.fs_top.proofs.program.print.Goals as goal
 
 pub returns-in-All-clause-does : goal.returns-in-All-clause-does

@@ -1,4 +1,4 @@
-use Rattle.fs_top.proofs.RunLaws.{print_none}
+use Rattle.fs_top.proofs.AnswerLaws.{print_none}
 use Rattle.fs_top.proofs.program.print_counts.Goals as goal
 
 pub returns-in-Ok-clause-does : goal.returns-in-Ok-clause-does

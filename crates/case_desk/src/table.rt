@@ -63,8 +63,8 @@ impl Table {
     ///
     /// `file TEXT` is the document `f`, to which `more TEXT` and `times COUNT TEXT` add, and `between TEXT` is one that
     /// stands between a `front TEXT` and a `back TEXT`. `later TEXT` is what `f` has when it is loaded the next time.
-    /// `input TEXT`, `inputs COUNT TEXT` and `command TEXT` add to what the link gives, the last one with the empty line
-    /// that ends a command, and `again COUNT PLACE` repeats so often what stands from a place on. `cuts`,
+    /// `input TEXT`, `inputs COUNT TEXT` and `command TEXT` add to what the link gives, the last one with the empty
+    /// line that ends a command, and `again COUNT PLACE` repeats so often what stands from a place on. `cuts`,
     /// `failed-loads`, `large-builds`, `failed-reads` and `failed-writes` have numbers.
     pub fn takes(&mut self, verb: &str, rest: &str, answer: &mut Answer) -> bool {
         match verb {

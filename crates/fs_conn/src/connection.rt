@@ -18,8 +18,8 @@ use std::alloc::Global;
 
 /// Plays a whole connection over a link: it comes, its commands are read, worked and answered, and it goes.
 ///
-/// The clock is the play's own. It begins at 0, and goes on only while the connection is owed a reply. A job that waits for
-/// a load gets one of the file of this name, by which the switch was configured.
+/// The clock is the play's own. It begins at 0, and goes on only while the connection is owed a reply. A job that waits
+/// for a load gets one of the file of this name, by which the switch was configured.
 pub fn play<L: Link, F: Files>(
     alloc: Global,
     machine: &mut Machine,

@@ -39,13 +39,15 @@ pub fn plays_a_run()
 /// `exit`, or by a password that was refused, that is the last of them.
 pub fn enters_commands_once()
     ensures first { (config : Configuration) (input : List ℕ) (read_failed : Bool) (notes : List LoadNote)
-        → (more : List (List ℕ)) × (blocks_of input ≡ commands_of 1 (played config input read_failed notes).journal ++ more) }
+        → (more : List (List ℕ))
+        × (blocks_of input ≡ commands_of 1 (played config input read_failed notes).journal ++ more) }
     ensures all { (config : Configuration) (input : List ℕ) (read_failed : Bool) (notes : List LoadNote) (end : End)
         → IsWithin config → (played config input read_failed notes).end ≡ Some end → is_by_input end ≡ true
         → commands_of 1 (played config input read_failed notes).journal ≡ blocks_of input }
     ensures exit { (config : Configuration) (input : List ℕ) (read_failed : Bool) (notes : List LoadNote)
         → (played config input read_failed notes).end ≡ Some ends.Exit
-        → EndsFor parting.Exit config.settings.password (commands_of 1 (played config input read_failed notes).journal) }
+        → EndsFor parting.Exit config.settings.password
+        (commands_of 1 (played config input read_failed notes).journal) }
     ensures refused { (config : Configuration) (input : List ℕ) (read_failed : Bool) (notes : List LoadNote)
         → (played config input read_failed notes).end ≡ Some ends.AuthRefused
         → EndsFor parting.AuthRefused config.settings.password
@@ -56,8 +58,9 @@ pub fn enters_commands_once()
 /// by which its connection parted; as one that was made to stop only where by an entry its connection parted, behind
 /// which no command came, and which brought the end of the switch or left it without the channel that it controlled;
 /// by a full journal only where no further entry is accepted behind what its journal costs, or no load, whose turn has
-/// come; for want of memory only where its turn has come, there is room for it, and no note is left; and as one that ran
-/// away only where somebody still has something to do at the moment of the last 100,000 entries, all of which are work.
+/// come; for want of memory only where its turn has come, there is room for it, and no note is left; and as one that
+/// ran away only where somebody still has something to do at the moment of the last 100,000 entries, all of which are
+/// work.
 pub fn ends_for_a_cause()
     ensures ends { (config : Configuration) (input : List ℕ) (read_failed : Bool) (notes : List LoadNote)
         → (end : End) × ((played config input read_failed notes).end ≡ Some end) }
@@ -92,8 +95,8 @@ pub fn closes_at_its_end()
 {}
 
 /// No entry that a play tries is refused but for a full journal: judged by the room in the journal alone, so that each
-/// is entered until the journal is full for it, which ends all, the entries make the same play. Each configuration keeps
-/// its limits.
+/// is entered until the journal is full for it, which ends all, the entries make the same play. Each configuration
+/// keeps its limits.
 pub fn refuses_only_when_full()
     ensures { (config : Configuration) (input : List ℕ) (read_failed : Bool) (notes : List LoadNote)
         → IsWithin config

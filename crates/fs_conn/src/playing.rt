@@ -9,8 +9,8 @@ use std::alloc::Global;
 /// The number of the one connection.
 pub(crate) const CONN: u32 = 1;
 
-/// A play of the one connection: the machine and the clock, the link with what is not yet written to it, and the file that
-/// the switch was configured by.
+/// A play of the one connection: the machine and the clock, the link with what is not yet written to it, and the file
+/// that the switch was configured by.
 #[derive(Drop)]
 pub(crate) struct Play<'m, 'l, 'f, L: Link, F: Files> {
     pub(crate) alloc: Global,

@@ -29,7 +29,8 @@ impl Model for SharedSubs {
 
     ghost Value = { Subscription };
 
-    ghost view = { λ s. let subs : Subscription = unwrap_or (option_map arc_value s.shared) nothing in record subs { filters = s.filters } };
+    ghost view = { λ s. let subs : Subscription = unwrap_or (option_map arc_value s.shared) nothing
+        in record subs { filters = s.filters } };
 }
 
 impl Drop for SharedSubs {

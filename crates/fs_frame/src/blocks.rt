@@ -79,8 +79,8 @@ impl Blocks {
         self.bytes.len() - self.start
     }
 
-    /// Hands out the block in front, or says whether one may still come. One does only where no more bytes are held than
-    /// a block may have.
+    /// Hands out the block in front, or says whether one may still come. One does only where no more bytes are held
+    /// than a block may have.
     pub fn next_block(&mut self) -> Next<'_>
         ensures answer { IsNext self.old result }
         ensures few { result ≡ NeedMore → length self.old.rest ≤ 65536 }

@@ -44,7 +44,8 @@ impl NewPlan {
             (λ _. ((k : ℕ) → F.loads files.new name.now k ≡ F.loads files.old name.now k)
             ⊎ ((k : ℕ) → F.loads files.new name.now k ≡ F.loads files.old name.now (k + 1))) }
         ensures counts { MatchResult result
-            (λ load. spec.CountsLoad load.note (F.counts files.old) (F.counts files.new) (F.sizes files.old) (F.sizes files.new))
+            (λ load. spec.CountsLoad load.note (F.counts files.old) (F.counts files.new)
+            (F.sizes files.old) (F.sizes files.new))
             (λ _. (F.counts files.new ≡ F.counts files.old) × (F.sizes files.new ≡ F.sizes files.old)) }
     {
         match files.load(name)? {
@@ -78,7 +79,8 @@ impl NewPlan {
         ensures fits { IfOk result spec.IsLoad }
         ensures document { IfOk result (λ load. spec.IsOfDocument text load.note) }
         ensures built { IfOk result (λ load. spec.IsBuiltAsNoted load.note) }
-        ensures sizes { MatchResult result (λ load. spec.CountsTooLarge load.note (P.sizes patterns.old) (P.sizes patterns.new))
+        ensures sizes { MatchResult result
+            (λ load. spec.CountsTooLarge load.note (P.sizes patterns.old) (P.sizes patterns.new))
             (λ _. P.sizes patterns.new ≡ P.sizes patterns.old) }
         ensures files { (P.counts patterns.new ≡ P.counts patterns.old)
             × (P.loads patterns.new ≡ P.loads patterns.old) }
@@ -107,7 +109,8 @@ impl NewPlan {
         ensures fits { IfOk result spec.IsLoad }
         ensures document { IfOk result (λ load. spec.IsOfDocument text load.note) }
         ensures built { IfOk result (λ load. spec.IsBuiltAsNoted load.note) }
-        ensures sizes { MatchResult result (λ load. spec.CountsTooLarge load.note (P.sizes patterns.old) (P.sizes patterns.new))
+        ensures sizes { MatchResult result
+            (λ load. spec.CountsTooLarge load.note (P.sizes patterns.old) (P.sizes patterns.new))
             (λ _. P.sizes patterns.new ≡ P.sizes patterns.old) }
         ensures files { (P.counts patterns.new ≡ P.counts patterns.old)
             × (P.loads patterns.new ≡ P.loads patterns.old) }

@@ -27,7 +27,8 @@ impl Machine {
         ensures cause { IfErr result (IsRefusedFor (state_of self.old) (spec.load_at now job load.note)) }
         ensures config { self.new.config ≡ self.old.config }
         ensures journal { OnOk result (self.new.journal ≡ self.old.journal ++ spec.load_at now job load.note ∷ []) }
-        ensures reply { IfOk result (λ reply. reply ≡ (step (state_of self.old) (spec.load_at now job load.note)).reply) }
+        ensures reply { IfOk result
+            (λ reply. reply ≡ (step (state_of self.old) (spec.load_at now job load.note)).reply) }
         ensures defined { OnOk result (refusal_of (state_of self.old) (spec.load_at now job load.note) ≡ None) }
         ensures free { OnOk result (HasRoomWithin self.old.config.settings.journal_limit (state_of self.old)) }
         ensures cost { OnOk result

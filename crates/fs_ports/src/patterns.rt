@@ -27,8 +27,8 @@ pub enum Built {
 pub trait Store {
     ghost counts: { Self → LoadCounts };
 
-    // The answers that the loads of a name to come give, one after another, where they are known. That of the next load has the
-    // number 0.
+    // The answers that the loads of a name to come give, one after another, where they are known. That of the next load
+    // has the number 0.
     ghost loads: { Self → List ℕ → ℕ → Option Load };
 
     // The patterns that were too large.

@@ -9,7 +9,8 @@ use fs_text::Memory;
 /// Why bytes were not read as a journal.
 #[derive(Clone, Copy, Debug, PartialEq, Eq)]
 pub enum JournalFault {
-    /// They are no journal's text. The first line that no journal has there starts at this offset, or the bytes end there.
+    /// They are no journal's text. The first line that no journal has there starts at this offset, or the bytes end
+    /// there.
     BadLine { at: u64 },
     /// There was no memory for the entries.
     Memory,
@@ -28,7 +29,8 @@ impl From<Memory> for JournalFault {
 pub(crate) enum Fault {
     /// It is no line of an entry, or it is cut before its first LF.
     Bad,
-    /// It is the line of a command or of a text that was loaded, and the bytes end before the LF behind its block or text.
+    /// It is the line of a command or of a text that was loaded, and the bytes end before the LF behind its block or
+    /// text.
     Cut,
     /// There was no memory for the entry.
     Memory,

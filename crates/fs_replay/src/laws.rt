@@ -7,5 +7,6 @@ ghost use Rattle.fs_replay.specs.Texts.{journal_text};
 
 /// Law: a text is that of at most one journal. So what was written is read back as it was.
 pub fn journal_law()
-    ensures { (one other : List Entry) → AreFit one → AreFit other → journal_text one ≡ journal_text other → one ≡ other }
+    ensures { (one other : List Entry) → AreFit one → AreFit other → journal_text one ≡ journal_text other
+        → one ≡ other }
 {}

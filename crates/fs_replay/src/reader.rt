@@ -66,7 +66,8 @@ impl<'a> Reader<'a> {
 
     /// Takes so many bytes, where more are left.
     pub fn bytes(&mut self, len: u64) -> Option<&'a [u8]>
-        ensures some { IfSome result (λ bytes. len < length self.old × (bytes.now ≡ take len self.old) × (self.new ≡ drop len self.old)) }
+        ensures some { IfSome result (λ bytes. len < length self.old
+            × (bytes.now ≡ take len self.old) × (self.new ≡ drop len self.old)) }
         ensures none { IfNone result (length self.old ≤ len) }
     {
         if self.left.len() as u64 <= len {

@@ -18,7 +18,8 @@ use std::alloc::Global;
 pub fn read_journal(alloc: Global, bytes: &[u8]) -> Result<Journal, JournalFault>
     ensures ok { IfOk result (λ journal. bytes.now ≡ journal_text journal.entries) }
     ensures bad { IfErr result (faults.Blames bytes.now) }
-    ensures only { (entries : List Entry) → AreFit entries → bytes.now ≡ journal_text entries → faults.OnlyReads entries result }
+    ensures only { (entries : List Entry) → AreFit entries → bytes.now ≡ journal_text entries
+        → faults.OnlyReads entries result }
 {
     let mut reader = Reader::of(bytes);
     if !reader.word(b"fsw journal 1\n") {

@@ -83,7 +83,8 @@ fn push_command(out: &mut Vec<u8>, conn: u32, block: &[u8]) -> Result<(), Memory
 
 /// Writes which job a load was for, and what is noted of it.
 fn push_loaded(out: &mut Vec<u8>, job: u64, note: &LoadNote) -> Result<(), Memory>
-    ensures { OnOk result (out.new.items ≡ out.old.items ++ (texts.field job ++ texts.note_words note.now ++ texts.note_block note.now)) }
+    ensures { OnOk result
+        (out.new.items ≡ out.old.items ++ (texts.field job ++ texts.note_words note.now ++ texts.note_block note.now)) }
 {
     push_field(out, job)?;
     push_note(out, note)

@@ -154,8 +154,8 @@ pub fn serve<
         (map O.dial_faults result.dialers.items) }
 
     // Unless nothing is handed back, what the journal notes of loads came, in its order, of loads of the file that were
-    // made one after another behind the first one, each of one of its own. At most as many note that it could not be read
-    // or was absent, or that a pattern was too large, as were counted.
+    // made one after another behind the first one, each of one of its own. At most as many note that it could not be
+    // read or was absent, or that a pattern was too large, as were counted.
     ensures loads { (result.journal.entries ≡ []) ⊎ NotesLoads
         (behind_first (store (F.loads files.old (spec.file_served words.now)) (F.counts files.old) (F.sizes files.old)))
         (store (F.loads files.new (spec.file_served words.now)) (F.counts files.new) (F.sizes files.new))
@@ -240,8 +240,8 @@ pub fn serve_with<
         (map O.dial_faults result.dialers.items) }
 
     // Unless nothing is handed back, what the journal notes of loads came, in its order, of loads of the file that were
-    // made one after another behind the first one, each of one of its own. At most as many note that it could not be read
-    // or was absent, or that a pattern was too large, as were counted.
+    // made one after another behind the first one, each of one of its own. At most as many note that it could not be
+    // read or was absent, or that a pattern was too large, as were counted.
     ensures loads { (result.journal.entries ≡ []) ⊎ NotesLoads
         (behind_first (store (F.loads files.old (spec.file_served words.now)) (F.counts files.old) (F.sizes files.old)))
         (store (F.loads files.new (spec.file_served words.now)) (F.counts files.new) (F.sizes files.new))
